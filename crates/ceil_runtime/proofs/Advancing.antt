@@ -6,12 +6,13 @@ use Rattle.trace_tree.specs.declared.event.Event.TheVariants as event
 use Rattle.machine.specs.Systems.{System}
 use Rattle.machine.specs.Meanings.{Running, Rest, Tells}
 use Rattle.ceil_runtime.specs.Processing.{Follows}
+use Rattle.ceil_runtime.specs.Reaching.{IsReached}
 use Rattle.ceil_runtime.specs.Snapshots.{Snapshot, running_at}
 use Rattle.ceil_runtime.specs.Stepping.{EndsAt}
 use Rattle.ceil_runtime.specs.Turns.{FallsAt, Turned, last_turn}
 
 pub follows-none : (r : Running) → Follows r [] r
-follows-none r = record { system = refl; tells = λ rest h. h }
+follows-none r = record { system = refl; tells = λ rest h. h; reaches = λ h. h }
 
 -- after steps that told nothing
 pub follows-then : (r r' r'' : Running) (told : List Event) → Follows r [] r' → Follows r' told r'' → Follows r told r''
@@ -19,6 +20,8 @@ follows-then r r' r'' told a b = record {
   system = b.system ∙ a.system;
   tells = λ rest h. a.tells (told ++ rest) (subst (λ (y : System). Rest y r'.state (told ++ rest)) a.system
       (b.tells rest (subst (λ (y : System). Rest y r''.state rest) (sym a.system) h)));
+  reaches = λ h. subst (λ (y : System). IsReached y r''.state) a.system (b.reaches (subst (λ (y : System). IsReached y r'.state) (sym a.system)
+      (a.reaches h)));
 }
 
 -- what is told from here is the events in the buffer, and what is told after them

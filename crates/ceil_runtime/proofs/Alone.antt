@@ -48,7 +48,7 @@ use Rattle.ceil_runtime.proofs.Effected.{end-run, end-sound}
 use Rattle.ceil_runtime.proofs.Falling.{falls-use, left_by}
 use Rattle.ceil_runtime.proofs.Nearing.{nears-ticks, ran-few}
 use Rattle.ceil_runtime.proofs.Phases.{acting}
-use Rattle.ceil_runtime.proofs.Processed.{Changed, arriving-goes, changed-system, follows-of, get-set_same, get_within, use-run, use-sound}
+use Rattle.ceil_runtime.proofs.Processed.{Changed, arriving-goes, changed-system, follows-of, get-set_same, get_within, still-reached, use-run, use-sound}
 use Rattle.ceil_runtime.proofs.Released.{delays-over, going-active}
 use Rattle.ceil_runtime.proofs.Stepped.{going-step}
 use Rattle.task_runtime.proofs.Shared.AtWork.{nests-going}
@@ -235,6 +235,10 @@ module _ (s : Snapshot) (i : ℕ) (whole : IsWholeAt (acting s i)) (limit : ℕ)
   below_then : IsBelow t.active s.queues.ready
   below_then = alone.first (omega (arith, some, fits)) t here
 
+  pass-follows : Follows (running_at (acting s i)) [] (running_at (record (acting s i) { time = s.time + ticks; tasks = tasks_now }))
+  pass-follows = passed-follows s.stores s.arrivals s.until s.time s.costs s.units i s.tasks s.queues whole.sound t t' tasks_now ticks changed all
+      some horizon_then wake_then quiet_then below_then ready
+
   pub pass-goes : GoesAlone (acting s i) (record (acting s i) { time = s.time + ticks; tasks = tasks_now }) i limit
   pass-goes = record {
     acting = record {
@@ -242,6 +246,7 @@ module _ (s : Snapshot) (i : ℕ) (whole : IsWholeAt (acting s i)) (limit : ℕ)
         sound = passed-sound s.stores s.arrivals s.until s.time s.costs s.units i s.tasks s.queues whole.sound t t' tasks_now ticks changed all some
             horizon_then wake_then quiet_then below_then ready;
         callees = whole.callees;
+        reached = still-reached whole pass-follows;
       };
       phase = refl;
       goes_on = refl;
@@ -253,8 +258,7 @@ module _ (s : Snapshot) (i : ℕ) (whole : IsWholeAt (acting s i)) (limit : ℕ)
       arrival = λ n from before. alone.arrival n (omega (arith, from)) before;
       first = λ less u at. still-below s.tasks i t t' s.queues.ready here (ap (λ v. v.active) does) below_then u at;
     };
-    follows = passed-follows s.stores s.arrivals s.until s.time s.costs s.units i s.tasks s.queues whole.sound t t' tasks_now ticks changed all some
-        horizon_then wake_then quiet_then below_then ready;
+    follows = pass-follows;
     threads = threads-put s.tasks i t t' here thread;
     nears = passed-nears s.stores s.arrivals s.until s.time s.costs s.units i s.tasks s.queues whole.sound t t' tasks_now ticks changed all some
         horizon_then wake_then quiet_then below_then ready;

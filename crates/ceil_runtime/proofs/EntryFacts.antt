@@ -117,7 +117,7 @@ module _ (m : Machine) (i : ℕ) (p : Piece) (d : Deed) (w : (t : Task) × IsDoi
       }
 
 -- variables are as many as their names
-length-vars : (rest : Variables) (vs : List Var) → length (fold with_var rest vs) ≡ length vs + length rest
+pub length-vars : (rest : Variables) (vs : List Var) → length (fold with_var rest vs) ≡ length vs + length rest
 length-vars rest [] = omega arith
 length-vars rest (v ∷ vs) = let more = length-vars (with_var rest v) vs in omega (arith, more)
 

@@ -93,7 +93,7 @@ settled-not : IsSettled (record over { ran = Some 0 }) → ⊥
 settled-not h = cc (h refl)
 
 follows : Follows at_end [] at_end
-follows = record { system = refl; tells = λ rest h. h }
+follows = record { system = refl; tells = λ rest h. h; reaches = λ h. h }
 
 tells-nothing : (n : ℕ) → (run idle n over).1 ≡ []
 tells-nothing zero = refl

@@ -31,7 +31,7 @@ use Rattle.ceil_runtime.proofs.Falling.{falls-arrival, falls-release, falls-use}
 use Rattle.ceil_runtime.proofs.Nearing.{nears-ticks, ran-few}
 use Rattle.ceil_runtime.proofs.Phases.{at_phase}
 use Rattle.ceil_runtime.proofs.Processed.{Changed, arriving-ends, arriving-goes, changed-system, first-entry, follows-of, follows-renumbered, get-put}
-use Rattle.ceil_runtime.proofs.Processed.{idle-run, idle-sound, no-entry, ready-known, set-twice, use-run, use-sound}
+use Rattle.ceil_runtime.proofs.Processed.{idle-run, idle-sound, no-entry, ready-known, set-twice, still-reached, use-run, use-sound}
 use Rattle.ceil_runtime.proofs.Released.{delays-over, going-readiness, over-sound, release-differs, release-run, release-sound, waiting-apart}
 use Rattle.ceil_runtime.proofs.Released.{waiting-free, woken-asleep, woken-known}
 
@@ -40,19 +40,23 @@ module _ (s : Snapshot) (whole : IsWholeAt (at_phase Delays s)) where
   -- they are over
   pub over-step : (q' : Queues) → None ≡ due s.time s.queues.asleep → q' ≡ record s.queues { asleep = after_due s.time s.queues.asleep }
       → Steps (at_phase Delays s) Nothing (record s { phase = Arriving; stopped = false; queues = q' })
-  over-step q' none is = record {
-    whole = λ on. record {
-      sound = over-sound s.stores s.arrivals s.until s.time s.costs s.units s.ran s.tasks s.queues whole.sound q' none is;
-      callees = whole.callees;
-    };
-    follows = follows-of (system_at s) (system_at s) 1 _ _ _ _ [] refl
-        (delays-over s.stores s.arrivals s.until s.time s.costs s.units s.ran s.tasks s.queues whole.sound none)
-        (ap (λ (q : Queues). state_by s.stores s.arrivals s.time Arriving s.ran false s.tasks q.ready) (sym is)) refl;
-    ends = refl;
-    nears = omega arith;
-    of = tt;
-    falls = λ on. omega arith;
-  }
+  over-step q' none is =
+      let f : Follows (running_at (at_phase Delays s)) [] (running_at (record s { phase = Arriving; stopped = false; queues = q' })) =
+      follows-of (system_at s) (system_at s) 1 _ _ _ _ [] refl
+      (delays-over s.stores s.arrivals s.until s.time s.costs s.units s.ran s.tasks s.queues whole.sound none)
+      (ap (λ (q : Queues). state_by s.stores s.arrivals s.time Arriving s.ran false s.tasks q.ready) (sym is)) refl in
+      record {
+        whole = λ on. record {
+          sound = over-sound s.stores s.arrivals s.until s.time s.costs s.units s.ran s.tasks s.queues whole.sound q' none is;
+          callees = whole.callees;
+          reached = still-reached whole f;
+        };
+        follows = f;
+        ends = refl;
+        nears = omega arith;
+        of = tt;
+        falls = λ on. omega arith;
+      }
 
   -- the first task that is due
   module _ (i : ℕ) (first : Some i ≡ due s.time s.queues.asleep) where
@@ -93,18 +97,22 @@ module _ (s : Snapshot) (whole : IsWholeAt (at_phase Delays s)) where
             tasks = change i (released s.costs) (map task_of s.tasks);
             orders = put_last i (places (length s.tasks) s.queues.ready);
           } in
+          let f : Follows (running_at (at_phase Delays s)) (told (event.Release s.time t'.progress.stack.thread.unit t.gate.value))
+          (running_at (record s { phase = Delays; stopped = false; tasks = tasks'; queues = q' })) =
+          subst (λ th. Follows (running_at (at_phase Delays s)) (told (event.Release s.time th.unit t.gate.value))
+          (running_at (record s { phase = Delays; stopped = false; tasks = tasks'; queues = q' }))) (sym thread)
+          (follows-renumbered (system_at s) _ 1 _ _ _ _ (told (event.Release s.time t.progress.stack.thread.unit t.gate.value)) refl
+          (release-run s.stores s.arrivals s.until s.time s.costs s.units s.ran s.tasks s.queues whole.sound i first tasks' t t' c)
+          (subst (λ (q : Queues). DifferInOrders after (state_by s.stores s.arrivals s.time Delays s.ran false tasks' q.ready)) (sym is)
+          (release-differs s.stores s.arrivals s.until s.time s.costs s.units s.ran s.tasks s.queues whole.sound i first tasks' t t' c)) same) in
           record {
             whole = λ on. record {
               sound = release-sound s.stores s.arrivals s.until s.time s.costs s.units s.ran s.tasks s.queues whole.sound i first tasks' t t' c q' is
                   works near;
               callees = whole.callees;
+              reached = still-reached whole f;
             };
-            follows = subst (λ th. Follows (running_at (at_phase Delays s)) (told (event.Release s.time th.unit t.gate.value))
-                (running_at (record s { phase = Delays; stopped = false; tasks = tasks'; queues = q' }))) (sym thread)
-                (follows-renumbered (system_at s) _ 1 _ _ _ _ (told (event.Release s.time t.progress.stack.thread.unit t.gate.value)) refl
-                (release-run s.stores s.arrivals s.until s.time s.costs s.units s.ran s.tasks s.queues whole.sound i first tasks' t t' c)
-                (subst (λ (q : Queues). DifferInOrders after (state_by s.stores s.arrivals s.time Delays s.ran false tasks' q.ready)) (sym is)
-                (release-differs s.stores s.arrivals s.until s.time s.costs s.units s.ran s.tasks s.queues whole.sound i first tasks' t t' c)) same);
+            follows = f;
             ends = (tt, refl);
             nears = tt;
             of = record { place = i; task = t; here = woken-here; is_unit = ap (λ th. th.unit) thread };
@@ -113,7 +121,11 @@ module _ (s : Snapshot) (whole : IsWholeAt (at_phase Delays s)) where
           }
 
 -- an arrival whose time has come
-module _ (s : Snapshot) (a : Arrival) (others : List Arrival) (whole : IsWholeAt (at_phase Arriving s)) (now : a.time ≡ s.time) where
+module _ (s : Snapshot) (a : Arrival) (others : List Arrival) (whole : IsWholeAt (record s {
+  phase = Arriving;
+  stopped = false;
+  arrivals = a ∷ others;
+})) (now : a.time ≡ s.time) where
   -- the part before it is taken off the arrivals
   abbrev coming : Snapshot
   coming = record s { phase = Arriving; stopped = false; arrivals = a ∷ others }
@@ -121,15 +133,18 @@ module _ (s : Snapshot) (a : Arrival) (others : List Arrival) (whole : IsWholeAt
   -- no task is of its unit
   pub nobody-step : None ≡ option_map (λ (x : ℕ × states.Task). x.0) (first_where (is_of a.task) (map task_of s.tasks))
       → Steps coming Nothing (record s { phase = Arriving; stopped = false; arrivals = others })
-  nobody-step none = record {
-    whole = λ on. record { sound = whole.sound; callees = whole.callees };
-    follows = follows-of (system_at s) (system_at s) 1 _ _ _ _ [] refl
-        (nobody-asked s.stores a others s.until s.time s.costs s.units s.ran s.tasks s.queues whole.sound now none) refl refl;
-    ends = refl;
-    nears = omega arith;
-    of = tt;
-    falls = λ on. omega arith;
-  }
+  nobody-step none =
+      let f : Follows (running_at coming) [] (running_at (record s { phase = Arriving; stopped = false; arrivals = others })) =
+      follows-of (system_at s) (system_at s) 1 _ _ _ _ [] refl
+      (nobody-asked s.stores a others s.until s.time s.costs s.units s.ran s.tasks s.queues whole.sound now none) refl refl in
+      record {
+        whole = λ on. record { sound = whole.sound; callees = whole.callees; reached = still-reached whole f };
+        follows = f;
+        ends = refl;
+        nears = omega arith;
+        of = tt;
+        falls = λ on. omega arith;
+      }
 
   -- the first task of its unit
   module _ (i : ℕ) (found : Some i ≡ option_map (λ (x : ℕ × states.Task). x.0) (first_where (is_of a.task) (map task_of s.tasks))) where
@@ -167,19 +182,23 @@ module _ (s : Snapshot) (a : Arrival) (others : List Arrival) (whole : IsWholeAt
       -- it doesn't wait
       pub kept-step : (t'.readiness ≡ readies.Waiting → ⊥) → Steps coming (One (event.Arrive s.time a.task a.value))
           (record s { phase = Arriving; stopped = false; arrivals = others; tasks = arrived })
-      kept-step not = record {
-        whole = λ on. record { sound = reached-sound; callees = whole.callees };
-        follows = follows-of (system_at s) _ 1 _ _ _ _ (event.Arrive s.time a.task a.value ∷ []) refl
-            (asked-run s.stores a others s.until s.time s.costs s.units s.ran s.tasks s.queues whole.sound now i found t t' arrived asks
-            (waiting-apart t'.readiness t'.next not))
-            (asked-state s.stores a others s.until s.time s.costs s.units s.ran s.tasks s.queues whole.sound now i found t t' arrived asks)
-            (changed-system s.tasks arrived i t t' (asked a.value) asks s.until s.costs s.units);
-        ends = (tt, refl);
-        nears = tt;
-        of = record { place = i; task = t; here = asks.here; is_unit = reached-unit };
-        falls = λ on. falls-arrival s.tasks arrived i t t' (asked a.value) asks s.until s.costs s.units s.stores s.stores a others s.time 1 s.ran
-            false s.queues.ready s.queues.ready (omega arith);
-      }
+      kept-step not =
+          let f : Follows (running_at coming) (event.Arrive s.time a.task a.value ∷ [])
+          (running_at (record s { phase = Arriving; stopped = false; arrivals = others; tasks = arrived })) =
+          follows-of (system_at s) _ 1 _ _ _ _ (event.Arrive s.time a.task a.value ∷ []) refl
+          (asked-run s.stores a others s.until s.time s.costs s.units s.ran s.tasks s.queues whole.sound now i found t t' arrived asks
+          (waiting-apart t'.readiness t'.next not))
+          (asked-state s.stores a others s.until s.time s.costs s.units s.ran s.tasks s.queues whole.sound now i found t t' arrived asks)
+          (changed-system s.tasks arrived i t t' (asked a.value) asks s.until s.costs s.units) in
+          record {
+            whole = λ on. record { sound = reached-sound; callees = whole.callees; reached = still-reached whole f };
+            follows = f;
+            ends = (tt, refl);
+            nears = tt;
+            of = record { place = i; task = t; here = asks.here; is_unit = reached-unit };
+            falls = λ on. falls-arrival s.tasks arrived i t t' (asked a.value) asks s.until s.costs s.units s.stores s.stores a others s.time 1 s.ran
+                false s.queues.ready s.queues.ready (omega arith);
+          }
 
       -- it waits, and is released
       pub served-step : t'.readiness ≡ readies.Waiting → (t'' : Task) → task_of t'' ≡ released s.costs (task_of t')
@@ -204,20 +223,24 @@ module _ (s : Snapshot) (a : Arrival) (others : List Arrival) (whole : IsWholeAt
           ∙ ap (λ th. event.Release s.time th.unit a.value) (sym thread') in
           let first = falls-arrival s.tasks arrived i t t' (asked a.value) asks s.until s.costs s.units s.stores s.stores a others s.time 2 s.ran
           false s.queues.ready s.queues.ready (omega arith) in
+          let f : Follows (running_at coming) (told (event.Release s.time t''.progress.stack.thread.unit a.value))
+          (running_at (record s { phase = Arriving; stopped = false; arrivals = others; tasks = tasks''; queues = q' })) =
+          subst (λ e. Follows (running_at coming) (told e)
+          (running_at (record s { phase = Arriving; stopped = false; arrivals = others; tasks = tasks''; queues = q' }))) event_is
+          (follows-renumbered (system_at s) _ 1 _ _ _ _ (told (event.Release s.time t'.progress.stack.thread.unit (task_of t').gate.value)) refl
+          (answered-run s.stores a others s.until s.time s.costs s.units s.ran s.tasks s.queues whole.sound now i found t t' arrived asks t''
+          tasks'' again waits)
+          (subst (λ (q : Queues). DifferInOrders after (state_by s.stores others s.time Arriving s.ran false tasks'' q.ready)) (sym is)
+          (answered-differs s.stores a others s.until s.time s.costs s.units s.ran s.tasks s.queues whole.sound now i found t t' arrived asks
+          t'' tasks'' again waits)) whole_same) in
           record {
             whole = λ on. record {
               sound = answered-sound s.stores a others s.until s.time s.costs s.units s.ran s.tasks s.queues whole.sound now i found t t' arrived asks
                   t'' tasks'' again waits q' same is works;
               callees = whole.callees;
+              reached = still-reached whole f;
             };
-            follows = subst (λ e. Follows (running_at coming) (told e)
-                (running_at (record s { phase = Arriving; stopped = false; arrivals = others; tasks = tasks''; queues = q' }))) event_is
-                (follows-renumbered (system_at s) _ 1 _ _ _ _ (told (event.Release s.time t'.progress.stack.thread.unit (task_of t').gate.value)) refl
-                (answered-run s.stores a others s.until s.time s.costs s.units s.ran s.tasks s.queues whole.sound now i found t t' arrived asks t''
-                tasks'' again waits)
-                (subst (λ (q : Queues). DifferInOrders after (state_by s.stores others s.time Arriving s.ran false tasks'' q.ready)) (sym is)
-                (answered-differs s.stores a others s.until s.time s.costs s.units s.ran s.tasks s.queues whole.sound now i found t t' arrived asks
-                t'' tasks'' again waits)) whole_same);
+            follows = f;
             ends = (tt, tt, refl);
             nears = tt;
             of = (
@@ -248,6 +271,9 @@ module _ (s : Snapshot) (whole : IsWholeAt (at_phase Arriving s)) (none : NoArri
   pub before-step : (s.time ≡ s.until → ⊥) → Steps (at_phase Arriving s) Nothing (record s { phase = Use; stopped = false })
   before-step before =
       let more : s.time < s.until = less s.time s.until whole.sound.in_time before in
+      let f : Follows (running_at (at_phase Arriving s)) [] (running_at (record s { phase = Use; stopped = false })) =
+      follows-of (system_at s) (system_at s) 1 _ _ _ _ [] refl
+      (arriving-goes (system_at s) s.stores s.arrivals s.time s.ran s.tasks s.queues.ready none before) refl refl in
       record {
         whole = λ on. record {
           sound = record {
@@ -262,9 +288,9 @@ module _ (s : Snapshot) (whole : IsWholeAt (at_phase Arriving s)) (none : NoArri
             in_time = whole.sound.in_time;
           };
           callees = whole.callees;
+          reached = still-reached whole f;
         };
-        follows = follows-of (system_at s) (system_at s) 1 _ _ _ _ [] refl
-            (arriving-goes (system_at s) s.stores s.arrivals s.time s.ran s.tasks s.queues.ready none before) refl refl;
+        follows = f;
         ends = refl;
         nears = omega arith;
         of = tt;
@@ -284,15 +310,19 @@ module _ (s : Snapshot) (whole : IsWholeAt (at_phase Use s)) (ticks : ℕ) (some
   idle-step head =
       let none = no-entry s.queues.ready head in
       let same : q' ≡ s.queues = is ∙ ap (λ (es : List Entry). record s.queues { ready = es }) none.1 in
+      let f : Follows (running_at (at_phase Use s)) []
+      (running_at (record s { time = s.time + ticks; phase = Effects None; ran = None; stopped = false })) =
+      follows-of (system_at s) (system_at s) (4 * (ticks - 1) + 1) _ _ _ _ [] refl
+      (idle-run s.stores s.arrivals s.until s.time s.costs s.units s.ran s.tasks s.queues whole.sound ticks some horizon wake quiet none.0)
+      refl refl in
       subst (λ q. Steps (at_phase Use s) Nothing (record s { time = s.time + ticks; phase = Effects None; ran = None; stopped = false; queues = q }))
       (sym same) (record {
         whole = λ on. record {
           sound = idle-sound s.stores s.arrivals s.until s.time s.costs s.units s.ran s.tasks s.queues whole.sound ticks some horizon wake quiet;
           callees = whole.callees;
+          reached = still-reached whole f;
         };
-        follows = follows-of (system_at s) (system_at s) (4 * (ticks - 1) + 1) _ _ _ _ [] refl
-            (idle-run s.stores s.arrivals s.until s.time s.costs s.units s.ran s.tasks s.queues whole.sound ticks some horizon wake quiet none.0)
-            refl refl;
+        follows = f;
         ends = refl;
         nears = nears-ticks None s.arrivals s.until s.time (s.time + ticks) (most_ends (system_at s)) (most_ends (system_at s)) s.tasks s.tasks s.ran
             None refl (omega (arith, some)) horizon (omega arith);
@@ -334,12 +364,21 @@ module _ (s : Snapshot) (whole : IsWholeAt (at_phase Use s)) (ticks : ℕ) (some
           first.0 tasks' t t' c first.1 within (ap (λ v. v.left) does) (ap (λ v. v.used) does) (ap (λ v. v.works) does) (ap (λ v. v.next) does) ready
           q' is in
           let few = ran-few s.until (s.time + ticks) s.costs s.units tasks' (Some i) sound.kept in
+          let f : Follows (running_at (at_phase Use s)) [] (running_at (record s {
+            time = s.time + ticks;
+            phase = Effects (Some i);
+            ran = Some i;
+            stopped = false;
+            tasks = tasks';
+            queues = q';
+          })) =
+          follows-of (system_at s) _ (4 * (ticks - 1) + 1) _ _ _ _ [] refl
+          (use-run s.stores s.arrivals s.until s.time s.costs s.units s.ran s.tasks s.queues whole.sound ticks some horizon wake quiet i first.0
+          tasks' t t' c first.1 within (ap (λ v. v.left) does) (ap (λ v. v.used) does) (ap (λ v. v.works) does) (ap (λ v. v.next) does) ready)
+          (ap (λ (q : Queues). state_by s.stores s.arrivals (s.time + ticks) (Effects (Some i)) (Some i) false tasks' q.ready) (sym is)) same in
           record {
-            whole = λ on. record { sound = sound; callees = whole.callees };
-            follows = follows-of (system_at s) _ (4 * (ticks - 1) + 1) _ _ _ _ [] refl
-                (use-run s.stores s.arrivals s.until s.time s.costs s.units s.ran s.tasks s.queues whole.sound ticks some horizon wake quiet i first.0
-                tasks' t t' c first.1 within (ap (λ v. v.left) does) (ap (λ v. v.used) does) (ap (λ v. v.works) does) (ap (λ v. v.next) does) ready)
-                (ap (λ (q : Queues). state_by s.stores s.arrivals (s.time + ticks) (Effects (Some i)) (Some i) false tasks' q.ready) (sym is)) same;
+            whole = λ on. record { sound = sound; callees = whole.callees; reached = still-reached whole f };
+            follows = f;
             ends = refl;
             nears = nears-ticks (Some i) s.arrivals s.until s.time (s.time + ticks) (most_ends (system_at s)) _ s.tasks tasks' s.ran (Some i)
                 (ap most_ends same) (omega (arith, some)) horizon few;

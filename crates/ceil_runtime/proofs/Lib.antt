@@ -1,5 +1,6 @@
 pub mod Openings
 pub mod Aheads
+pub mod Reaching
 pub mod Processed
 pub mod Released
 pub mod Effected
@@ -25,6 +26,7 @@ pub mod ObjectsKept
 pub mod EntrySteps
 pub mod ActedLaws
 pub mod EntryFacts
+pub mod Homes
 pub mod ExamplesSections
 pub mod ExamplesActed
 pub mod Alone

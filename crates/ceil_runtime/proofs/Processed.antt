@@ -16,7 +16,7 @@ use Rattle.machine.specs.States as states
 use Rattle.machine.specs.Dispatch.{dispatched}
 use Rattle.machine.specs.Releases.{Next}
 use Rattle.machine.specs.Steps.{step, arrival_step, arrive_at, horizon_step}
-use Rattle.machine.specs.Meanings.{Rest, run, and_then}
+use Rattle.machine.specs.Meanings.{Rest, Running, run, and_then}
 use Rattle.trace_tree.specs.declared.event.Event.TheVariants as event
 use Rattle.law_dispatching.specs.Renumbering.{DifferInOrders}
 use Rattle.law_dispatching.proofs.Shared.Renumbered.{renumbered_tells}
@@ -34,10 +34,13 @@ use Rattle.task_runtime.specs.Callable.{CallsAlike}
 use Rattle.task_runtime.specs.Libraries.{no_costs}
 use Rattle.task_runtime.specs.Written.{system_of, thread_of}
 use Rattle.ceil_runtime.specs.Processing.{AreAlike, AllTasks, Follows, IsKept, IsSound, IsWithin, order_of, state_by, system_by, with_task}
+use Rattle.ceil_runtime.specs.Reaching.{IsReached}
+use Rattle.ceil_runtime.specs.Snapshots.{IsWholeAt, Snapshot, running_at}
 use Rattle.task_runtime.specs.Readies.{is_ready}
 use Rattle.task_runtime.specs.Works.{IsNested, task_of, used_ticks}
 use Rattle.task_runtime.specs.declared.task.Task.{Task}
 use Rattle.ceil_runtime.specs.declared.processor.Phase.TheVariants.{Effects, Arriving, Use}
+use Rattle.ceil_runtime.proofs.Reaching.{reached-renumbered, reached-run}
 
 -- the task of an entry, where there is one
 abbrev first_or : ℕ → Option Entry → ℕ
@@ -61,6 +64,7 @@ follows-of y y' n s s' s'' t told before runs after same = record {
   system = same;
   tells = λ rest r. subst (λ (z : states.State). Rest y z (told ++ rest)) (sym before) (follows-run y n s' s'' told runs rest
       (subst (λ (z : states.State). Rest y z rest) (sym after) r));
+  reaches = λ r. subst (IsReached y) after (reached-run y n s' s'' told runs (subst (IsReached y) before r));
 }
 
 -- one task has changed
@@ -337,7 +341,12 @@ follows-renumbered y y' n s s' s'' t told before runs differ same = record {
   system = same;
   tells = λ rest r. subst (λ (z : states.State). Rest y z (told ++ rest)) (sym before) (follows-run y n s' s'' told runs rest
       ((renumbered_tells y s'' t rest differ).1 r));
+  reaches = λ r. reached-renumbered y s'' t differ (reached-run y n s' s'' told runs (subst (IsReached y) before r));
 }
+
+-- where a run stands after steps that it makes
+pub still-reached : {s : Snapshot} {r : Running} {told : List Event} → IsWholeAt s → Follows (running_at s) told r → IsReached r.system r.state
+still-reached {s} {r} {told} whole f = subst (λ (y : System). IsReached y r.state) (sym f.system) (f.reaches whole.reached)
 
 -- where none arrives now, the arrivals are over
 none-arrives : (y : System) (arrivals : List Arrival) (s : states.State) → NoArrival s.time arrivals → arrival_step y arrivals s ≡ horizon_step y s

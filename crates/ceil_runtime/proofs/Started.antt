@@ -17,6 +17,9 @@ use Rattle.law_dispatching.specs.Queueing.{AreQueued, AreSleeping, IsIn, SleepsU
 use Rattle.law_dispatching.proofs.Shared.Places.{get-within}
 use Rattle.law_dispatching.proofs.Shared.Queued.{in-new, in-put}
 use Rattle.law_dispatching.proofs.Shared.Ranks.{length-places}
+use Rattle.law_ceilings.specs.Premises.{MayExclude}
+use Rattle.ceil_runtime.specs.Reaching.{IsReached}
+use Rattle.ceil_runtime.proofs.Reaching.{opening-reached}
 use Rattle.ceil_runtime.specs.Processing.{AreAlike, IsKept, IsSound, state_by, system_by}
 use Rattle.task_runtime.specs.Progressed.{vars_left, pieces_left}
 use Rattle.task_runtime.specs.Readies.{gate_of, readiness_of}
@@ -300,6 +303,12 @@ module _ (until : ℕ) (costs : Costs) (us : List units.Unit) (threads : List Th
       ∙ ap (λ ts. view (record (system_for until costs us threads) { threads = ts })
       (opening (record (system_for until costs us threads) { threads = ts }) arrivals))
       (threads-of tasks ∙ ap (map thread_of) o.threads_are)
+
+  pub open-reached : (arrivals : List Arrival) → MayExclude (system_for until costs us threads) arrivals → IsReached (system_by until costs us tasks)
+      (state_by (map (λ g. written g.vars) (objects_from 0 (map unit_of us))) arrivals 0 (Effects None) None false tasks q.ready)
+  open-reached arrivals excludes =
+      subst (λ (r : Running). IsReached r.system r.state) (sym (open-running arrivals))
+      (opening-reached (system_for until costs us threads) arrivals excludes)
 
 pub slept-size : (w : Timing) (task : ℕ) (q : Queues) → (first_slept w task q).size ≡ q.size
 slept-size (timing.Periodic offset period) task q = refl

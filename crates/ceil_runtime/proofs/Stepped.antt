@@ -28,8 +28,8 @@ use Rattle.task_runtime.specs.declared.task.Readiness.TheVariants as readies
 use Rattle.task_runtime.specs.declared.task.Task.{Task}
 use Rattle.ceil_runtime.specs.Acted.{HasDone}
 use Rattle.ceil_runtime.specs.Left.{ran_effort, sleeper, sleepers}
-use Rattle.ceil_runtime.specs.Processing.{IsSound, order_of, state_by, system_by}
-use Rattle.ceil_runtime.specs.Snapshots.{IsWholeAt, Snapshot, state_at, system_at}
+use Rattle.ceil_runtime.specs.Processing.{Follows, IsSound, order_of, state_by, system_by}
+use Rattle.ceil_runtime.specs.Snapshots.{IsWholeAt, Snapshot, running_at, state_at, system_at}
 use Rattle.ceil_runtime.specs.Stepping.{AreOfTask, Ends, HasUnit, IsNear, Steps, told_of}
 use Rattle.ceil_runtime.specs.declared.processor.Phase.TheVariants.{Effects, Delays}
 use Rattle.ceil_runtime.specs.declared.processor.Told.{Told}
@@ -38,6 +38,7 @@ use Rattle.ceil_runtime.proofs.Falling.{falls-effect, sleeper-most, sleepers-sum
 use Rattle.ceil_runtime.proofs.Nearing.{fewer-effects, nears-effect, reserve-most}
 use Rattle.ceil_runtime.proofs.Phases.{acting, at_phase}
 use Rattle.ceil_runtime.proofs.Processed.{Changed, changed-system, follows-of, follows-renumbered, get-put, get_within, here-of, step-run}
+use Rattle.ceil_runtime.proofs.Processed.{still-reached}
 use Rattle.ceil_runtime.proofs.Effected.{act-step, nobody-run, nobody-sound, end-run, end-sound, ended-rests, finish-differs, finish-run}
 use Rattle.ceil_runtime.proofs.Effected.{finish-sound, going-differs, going-sound, is-ready, served-differs, served-run, served-sound, wait-sound}
 use Rattle.ceil_runtime.proofs.Effected.{waits-now}
@@ -75,10 +76,13 @@ module _ (s : Snapshot) (i : ℕ) (whole : IsWholeAt (acting s i)) (running : Op
   near (One e) = tt
   near (Two e f) = tt
 
+  effect-follows : Follows (running_at (acting s i)) (told_of told) (running_at (acted_to s i running tasks' queues' stores'))
+  effect-follows = follows-renumbered (system_at s) _ 1 _ _ n _ (told_of told) refl runs differ same
+
   pub effect-step : Steps (acting s i) told (acted_to s i running tasks' queues' stores')
   effect-step = record {
-    whole = λ on. record { sound = sound'; callees = whole.callees };
-    follows = follows-renumbered (system_at s) _ 1 _ _ n _ (told_of told) refl runs differ same;
+    whole = λ on. record { sound = sound'; callees = whole.callees; reached = still-reached whole effect-follows };
+    follows = effect-follows;
     ends = ends;
     nears = near told;
     of = of;
@@ -264,29 +268,40 @@ module _ (s : Snapshot) (i : ℕ) (whole : IsWholeAt (acting s i)) (t t' : Task)
 pub end-step : (s : Snapshot) (i : ℕ) (whole : IsWholeAt (acting s i)) (t : Task) (here : slice_get s.tasks i ≡ Some t)
     → ((task_of t).pieces ≡ []) ⊎ (t.left ≡ 0 → ⊥) → (q' : Queues) → q' ≡ record s.queues { ready = at_head (i, t.active) s.queues.ready }
     → Steps (acting s i) Nothing (record s { phase = Delays; ran = Some i; stopped = false; queues = q' })
-end-step s i whole t here idle q' is = record {
-  whole = λ on. record {
-    sound = end-sound s.until s.time s.units i (Some i) s.tasks s.queues whole.sound t here q' is;
-    callees = whole.callees;
-  };
-  follows = follows-of (system_at s) (system_at s) 1 _ _ _ _ [] refl
-      (end-run s.until s.time s.units i (Some i) s.tasks s.queues whole.sound t here (system_at s) s.stores s.arrivals idle)
-      (ap (λ (q : Queues). state_by s.stores s.arrivals s.time Delays (Some i) false s.tasks q.ready) (sym is)) refl;
-  ends = refl;
-  nears = omega arith;
-  of = tt;
-  falls = λ on. omega arith;
-}
+end-step s i whole t here idle q' is =
+    let f : Follows (running_at (acting s i)) [] (running_at (record s { phase = Delays; ran = Some i; stopped = false; queues = q' })) =
+    follows-of (system_at s) (system_at s) 1 _ _ _ _ [] refl
+    (end-run s.until s.time s.units i (Some i) s.tasks s.queues whole.sound t here (system_at s) s.stores s.arrivals idle)
+    (ap (λ (q : Queues). state_by s.stores s.arrivals s.time Delays (Some i) false s.tasks q.ready) (sym is)) refl in
+    record {
+      whole = λ on. record {
+        sound = end-sound s.until s.time s.units i (Some i) s.tasks s.queues whole.sound t here q' is;
+        callees = whole.callees;
+        reached = still-reached whole f;
+      };
+      follows = f;
+      ends = refl;
+      nears = omega arith;
+      of = tt;
+      falls = λ on. omega arith;
+    }
 
 -- no task has effects
 pub nobody-step : (s : Snapshot) (whole : IsWholeAt (at_phase (Effects None) s))
     → Steps (at_phase (Effects None) s) Nothing (record s { phase = Delays; stopped = false })
-nobody-step s whole = record {
-  whole = λ on. record { sound = nobody-sound s.until s.time s.units s.ran s.tasks s.queues whole.sound; callees = whole.callees };
-  follows = follows-of (system_at s) (system_at s) 1 _ _ _ _ [] refl
-      (nobody-run (system_at s) s.stores s.arrivals s.time s.ran s.tasks s.queues.ready whole.sound.here) refl refl;
-  ends = refl;
-  nears = omega arith;
-  of = tt;
-  falls = λ on. omega arith;
-}
+nobody-step s whole =
+    let f : Follows (running_at (at_phase (Effects None) s)) [] (running_at (record s { phase = Delays; stopped = false })) =
+    follows-of (system_at s) (system_at s) 1 _ _ _ _ [] refl
+    (nobody-run (system_at s) s.stores s.arrivals s.time s.ran s.tasks s.queues.ready whole.sound.here) refl refl in
+    record {
+      whole = λ on. record {
+        sound = nobody-sound s.until s.time s.units s.ran s.tasks s.queues whole.sound;
+        callees = whole.callees;
+        reached = still-reached whole f;
+      };
+      follows = f;
+      ends = refl;
+      nears = omega arith;
+      of = tt;
+      falls = λ on. omega arith;
+    }

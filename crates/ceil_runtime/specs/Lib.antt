@@ -3,6 +3,7 @@ pub mod Replayable
 pub mod Left
 pub mod Turns
 pub mod Objects
+pub mod Reaching
 pub mod Processing
 pub mod Starts
 pub mod Snapshots

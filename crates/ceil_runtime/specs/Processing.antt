@@ -19,6 +19,7 @@ use Rattle.task_runtime.specs.Works.{IsNested, task_of}
 use Rattle.task_runtime.specs.Written.{system_of, thread_of}
 use Rattle.task_runtime.specs.declared.task.Task.{Task}
 use Rattle.task_runtime.specs.declared.piece.Piece.{Piece}
+use Rattle.ceil_runtime.specs.Reaching.{IsReached}
 use Rattle.ceil_runtime.specs.declared.processor.Phase.{Phase}
 use Rattle.ceil_runtime.specs.declared.processor.Phase.TheVariants.{Effects, Delays, Arriving, Use}
 
@@ -29,10 +30,11 @@ phase_of Delays = states.Delays
 phase_of Arriving = states.Arriving
 phase_of Use = states.Use
 
--- what is told from here is this, and then what is told from there; both are runs of one system
+-- what is told from here is this, and then what is told from there; both are runs of one system, and there is reached where here is
 pub record Follows (r : Running) (told : List Event) (r' : Running) : Type 0 where
   pub system : r'.system ≡ r.system
   pub tells : (rest : List Event) → Rest r.system r'.state rest → Rest r.system r.state (told ++ rest)
+  pub reaches : IsReached r.system r.state → IsReached r.system r'.state
 
 -- what runs
 abbrev pub system_by : ℕ → Costs → List units.Unit → List Task → System

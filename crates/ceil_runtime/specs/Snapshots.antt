@@ -12,6 +12,7 @@ use Rattle.task_runtime.specs.Called.{AreCalleesOf}
 use Rattle.task_runtime.specs.declared.callees.Callees.{Callees}
 use Rattle.task_runtime.specs.declared.task.Task.{Task}
 use Rattle.ceil_runtime.specs.Processing.{IsSound, state_by, system_by}
+use Rattle.ceil_runtime.specs.Reaching.{IsReached}
 use Rattle.ceil_runtime.specs.declared.processor.Phase.{Phase}
 
 -- a processor, without how its machine keeps it
@@ -40,7 +41,8 @@ state_at s = state_by s.stores s.arrivals s.time s.phase s.ran s.stopped s.tasks
 abbrev pub running_at : Snapshot → Running
 running_at s = record { system = system_at s; state = state_at s }
 
--- its lists are those of its tasks, and its calls lead to what those of its units do
+-- its lists are those of its tasks, its calls lead to what those of its units do, and it stands where a run comes to
 pub record IsWholeAt (s : Snapshot) : Type 0 where
   pub sound : IsSound s.until s.time s.phase s.ran s.units s.tasks s.queues
   pub callees : AreCalleesOf s.callees s.units
+  pub reached : IsReached (system_at s) (state_at s)

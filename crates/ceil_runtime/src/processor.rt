@@ -265,6 +265,8 @@ impl<'a> Machine<'a> {
     ghost use Rattle.task_runtime.specs.declared.task.Task.{Task};
     ghost use Rattle.std.specs.Prelude.{slice_get};
     ghost use Rattle.ceil_runtime.specs.Shown.{IsSettled, IsWhole, running_of, snapshot_of};
+    ghost use Rattle.ceil_runtime.specs.Snapshots.{IsWholeAt};
+    ghost use Rattle.law_ceilings.specs.Premises.{MayExclude};
     ghost use Rattle.ceil_runtime.specs.Acted.{HasActed, IsActing, IsDoing, with_tasks};
     ghost use Rattle.ceil_runtime.specs.Alone.{GoesAlone, IsAlone};
     ghost use Rattle.task_runtime.specs.Doing.{StaysOutside, is_silent};
@@ -313,6 +315,7 @@ impl<'a> Machine<'a> {
         requires ticking { costs_break costs ≡ false }
         requires start { AllThreads (CanStart units.now) threads.now }
         requires alike { AllThreads (λ t. system_of t ≡ system_for 0 no_costs units.now threads.now) threads.now }
+        requires excludes { MayExclude (system_for until costs units.now threads.now) arrivals.now }
         ensures opens { IfOk result (λ m. running_of m ≡ opened until costs units.entry.now arrivals.entry.now threads.entry.now) }
         ensures whole { IfOk result IsWhole }
     {
@@ -404,7 +407,7 @@ impl<'a> Machine<'a> {
 
     /// The arrival of a request for the task at this place, taken off the arrivals before.
     fn ask_at(&mut self, task: u32, arrival: Arrival) -> Told
-        requires whole { IsWhole self.old }
+        requires whole { IsWholeAt (before_arrival arrival (snapshot_of self.old)) }
         requires phase { self.old.phase ≡ Phase.Arriving }
         requires goes_on { self.old.stopped ≡ false }
         requires now { arrival.time ≡ self.old.time }
@@ -633,6 +636,8 @@ impl<'a> Machine<'a> {
             return self.stop(task, unit, ceiling);
         }
         let object = &mut self.objects[entry.object];
+        // No task is inside, so that the data are all at home.
+        prove!(object.data.len() == object.written.len());
         let caller = &mut self.tasks[task as usize];
         let values = caller.enter(&self.costs, entry, &mut object.data);
         caller.go_inside(Section::Object(entry.object), ceiling);

@@ -4,6 +4,7 @@ use Rattle.seq_tree.specs.Lists.{first_where}
 use Rattle.machine.specs.States as states
 use Rattle.task_runtime.specs.Works.{task_of}
 use Rattle.ceil_runtime.specs.Shown.{snapshot_of}
+use Rattle.ceil_runtime.specs.Snapshots.{IsWholeAt}
 use Rattle.ceil_runtime.specs.Stepping.{Steps}
 use Rattle.ceil_runtime.specs.declared.processor.Phase.TheVariants.{Arriving}
 use Rattle.ceil_runtime.specs.declared.processor.Told.TheVariants.{Nothing}
@@ -22,10 +23,13 @@ returns-in_default c =
     c.as_slice.ensures.value in
     in-phase s Arriving c.requires.whole c.requires.phase c.requires.goes_on (λ x. Steps x Nothing (record x { arrivals = others }))
     (λ whole. subst (λ as'. Steps (record s { phase = Arriving; stopped = false; arrivals = as' }) Nothing
-    (record s { phase = Arriving; stopped = false; arrivals = others })) (sym c.requires.first) (nobody-step s a others whole c.requires.now none))
+    (record s { phase = Arriving; stopped = false; arrivals = others })) (sym c.requires.first)
+    (nobody-step s a others (subst (λ as'. IsWholeAt (record s { phase = Arriving; stopped = false; arrivals = as' })) c.requires.first whole)
+    c.requires.now none))
 
 pub ask_at-requires-clause-whole : goal.ask_at-requires-clause-whole
-ask_at-requires-clause-whole c = record { sound = c.requires.whole.sound; callees = c.requires.whole.callees }
+ask_at-requires-clause-whole c =
+    subst (λ as'. IsWholeAt (record (snapshot_of c.args.self.now) { arrivals = as' })) c.requires.first c.requires.whole
 
 pub ask_at-requires-clause-found : goal.ask_at-requires-clause-found
 ask_at-requires-clause-found c =

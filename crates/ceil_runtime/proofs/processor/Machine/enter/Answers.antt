@@ -1,4 +1,4 @@
-use Rattle.std.proofs.Common.{sym, ap, ◌∙◌, refl, arith, length, map, take, Some, [], ◌∷◌, inl}
+use Rattle.std.proofs.Common.{◌≡◌, sym, subst, ap, ◌∙◌, refl, arith, length, map, take, Some, [], ◌∷◌, inl}
 use Rattle.std.specs.Prelude.{nat_lt}
 use Rattle.std.proofs.lemmas.Option.{same_Some}
 use Rattle.machine.specs.Deeds as deeds
@@ -14,6 +14,8 @@ use Rattle.ceil_runtime.specs.Snapshots.{system_at}
 use Rattle.ceil_runtime.proofs.EntryFacts.{found-op, found-shows, found-unit, met, met-within, place-few, same-names}
 use Rattle.ceil_runtime.proofs.EntrySteps.{doing-act, enter-step, stop-reached}
 use Rattle.ceil_runtime.proofs.ObjectsKept.{changed-objects, entered-ceiling, entered-unit}
+use Rattle.ceil_runtime.proofs.Homes.{entered-count}
+use Rattle.ceil_runtime.specs.declared.object.Object as kept
 use Rattle.ceil_runtime.proofs.Phases.{caller-works, doing-here, doing-known, step-beside}
 use Rattle.task_runtime.proofs.Shared.AtWork.{has-room, of-object}
 use Rattle.ceil_runtime.proofs.processor.Machine.enter.Goals as goal
@@ -160,3 +162,19 @@ returns c =
     c.go_inside.ensures.progress c.enter-values.ensures.works c.enter-values.ensures.falls e.object e.place _ f.found.entered.entered f.found.at
     m.objects.items refl o _ f.there (found-shows m i t e o f) (found-op m i t e o f) c.enter-values.ensures.enters c.enter-values.ensures.inside
     (c.go_inside.ensures.task ∙ ap (λ x. inside_now (Object e.object) x.ceiling (task_of t')) same_o) low (ap vars_of c.enter-values.ensures.lent))
+
+pub prove-unreachable-requires : goal.prove-unreachable-requires
+prove-unreachable-requires c =
+    let m = c.args.self.now in
+    let i = c.args.task in
+    let e = c.args.entry in
+    let w = c.requires.does in
+    let t0 = c.index.result.now in
+    let o0 = c.index-object.result.now in
+    let o = c.index_mut-object.result.now in
+    let before = met m i c.args.piece (Enter e) w e (of-object _ e w.1.deed.1) t0 c.index.ensures o0 c.index-object.ensures in
+    let f = met m i c.args.piece (Enter e) w e (of-object _ e w.1.deed.1) t0 c.index.ensures o c.index_mut-object.ensures.value in
+    let count = entered-count m i c.args.piece e w t0 c.index.ensures o0 c.index-object.ensures (sym c.is_above.ensures ∙ c.if-is_above.false) in
+    let same = same_Some o0 o (sym before.there ∙ f.there) in
+    let all : length o.«data».items ≡ length o.written.now = subst (λ (x : kept.Object). length x.«data».items ≡ length x.written.now) same count in
+    c.if-prove.true (c.len.ensures ∙ o.«data».ok.0 ∙ all)

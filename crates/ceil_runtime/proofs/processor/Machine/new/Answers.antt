@@ -6,6 +6,9 @@ use Rattle.ceil_runtime.specs.Gathering.{AllThreads}
 use Rattle.task_runtime.specs.Libraries.{handed, no_costs, threads_from}
 use Rattle.ceil_runtime.specs.Starts.{CanStart, opened, system_for}
 use Rattle.task_runtime.specs.Written.{system_of, thread_of}
+use Rattle.arrivals_tree.specs.Arrived.{horizon_limit}
+use Rattle.law_ceilings.specs.Premises.{MayExclude}
+use Rattle.law_ceilings.proofs.Shared.Programs.{may-exclude}
 use Rattle.ceil_runtime.proofs.Openings.{can-start, near-horizon, opened-all}
 use Rattle.task_runtime.proofs.Shared.Runnable.{whole}
 use Rattle.ceil_runtime.proofs.Started.{start-alike}
@@ -61,3 +64,15 @@ pub open-requires-clause-alike : goal.open-requires-clause-alike
 open-requires-clause-alike c =
     subst (λ ths. AllThreads (λ t. system_of t ≡ system_for 0 no_costs c.as_slice-units.result.now ths) ths) (sym c.as_slice.ensures.value)
     (start-alike c.as_slice-work.result.now c.as_slice-units.result.now _ c.in_ok-threads.ensures.all c.in_ok-threads.ensures.each)
+
+pub open-requires-clause-excludes : goal.open-requires-clause-excludes
+open-requires-clause-excludes c =
+    let p = program_of c.args.program.now in
+    let a = arrivals_of c.args.arrivals.now in
+    let same = opened-all p a c.requires _ _ (ap (map unit_of) c.as_slice-units.ensures.value)
+    (ap (map thread_of) c.as_slice.ensures.value ∙ c.in_ok-threads.ensures.all ∙ ap
+    (λ ws. threads_from ws 0 (map unit_of c.as_slice-units.result.now)) c.as_slice-work.ensures.value ∙ ap
+    (λ us. threads_from c.args.arrivals.now.work.items 0 (map unit_of us)) c.as_slice-units.ensures.value) in
+    subst (λ as'. MayExclude (system_for c.args.arrivals.now.until c.args.program.now.costs c.as_slice-units.result.now c.as_slice.result.now) as')
+    (sym c.as_slice-2.ensures.value)
+    (subst (λ y. MayExclude y a.items) (sym (ap (λ r. r.system) same)) (may-exclude p c.requires.meets horizon_limit a c.requires.accepted))

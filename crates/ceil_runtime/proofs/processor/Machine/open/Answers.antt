@@ -10,11 +10,13 @@ use Rattle.ceil_runtime.specs.Processing.{state_by, system_by}
 use Rattle.ceil_runtime.specs.declared.processor.Phase.TheVariants.{Effects}
 use Rattle.ceil_runtime.proofs.ObjectsFound.{found-stores}
 use Rattle.link_queue.specs.Queues.{IsFree}
-use Rattle.ceil_runtime.specs.Starts.{AreOpen, first_slept, opened}
+use Rattle.ceil_runtime.specs.Reaching.{IsReached}
+use Rattle.ceil_runtime.specs.Starts.{AreOpen, first_slept, opened, system_for}
+use Rattle.law_ceilings.specs.Premises.{MayExclude}
 use Rattle.task_runtime.specs.declared.thread.Thread.{Thread}
 use Rattle.task_runtime.specs.declared.task.Task.{Task}
 use Rattle.ceil_runtime.proofs.ObjectsKept.{opened-objects}
-use Rattle.ceil_runtime.proofs.Started.{open-alike, open-free, open-next, open-none, open-running, open-sound, slept-size}
+use Rattle.ceil_runtime.proofs.Started.{open-alike, open-free, open-next, open-none, open-reached, open-running, open-sound, slept-size}
 use Rattle.ceil_runtime.proofs.processor.Machine.open.Goals as goal
 
 pub threads-init : goal.threads-init
@@ -81,6 +83,9 @@ invariant_of-result-clause-known c = opened-objects c.args.units.now c.in_ok-obj
 pub returns-clause-whole : goal.returns-clause-whole
 returns-clause-whole c =
     let i = c.threads.invariant in
+    let us = c.args.units.now in
+    let ts = c.threads.tasks.items in
+    let all = take_all c.threads.thread-index c.args.threads.now (omega (arith, c.threads-test.false)) in
     record {
       sound =
           open-sound c.args.until c.args.costs c.args.units.now (take c.threads.thread-index c.args.threads.now) c.threads.tasks.items c.threads.links
@@ -89,6 +94,16 @@ returns-clause-whole c =
           (open-alike c.args.units.now c.args.threads.now c.threads.tasks.items
           (i.opened.threads_are ∙ take_all c.threads.thread-index c.args.threads.now (omega (arith, c.threads-test.false))) c.requires.alike);
       callees = c.in_ok-callees.ensures;
+      reached =
+          subst (λ (σ : List Variables). IsReached (system_by c.args.until c.args.costs us ts)
+          (state_by σ c.args.arrivals.now 0 (Effects None) None false ts c.threads.links.ready))
+          (sym (found-stores c.in_ok-objects.objects.items (objects_from 0 (map unit_of us)) c.in_ok-objects.ensures))
+          (open-reached c.args.until c.args.costs us (take c.threads.thread-index c.args.threads.now) ts c.threads.links i.opened c.requires.near
+          (omega (arith, i.count, c.requires.few, c.threads-test.false, c.threads.auto.thread-index-end))
+          (omega (arith, i.size, i.count, c.threads-test.false, c.threads.auto.thread-index-end))
+          (open-alike us c.args.threads.now ts (i.opened.threads_are ∙ all) c.requires.alike) c.args.arrivals.now
+          (subst (λ (ths : List Thread). MayExclude (system_for c.args.until c.args.costs us ths) c.args.arrivals.now) (sym all)
+          c.requires.excludes));
     }
 
 pub returns-clause-opens : goal.returns-clause-opens

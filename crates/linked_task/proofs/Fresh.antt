@@ -1,0 +1,149 @@
+-- A task before its first activation, and one whose activation begins.
+use Rattle.std.proofs.Common.{◌≡◌, inl, ◌≤◌, ℕ, suc, ◌+◌, ◌-◌, true, false, [], ◌∷◌, ◌++◌, Option, None, length, map, refl, ap, sym}
+use Rattle.std.proofs.Common.{subst, ◌∙◌, arith}
+use Rattle.std.specs.Prelude.{vec_capacity}
+use Rattle.std.proofs.lemmas.List.{length-append, length-map}
+use Rattle.std.proofs.lemmas.Option.{same_Some}
+use Rattle.seq_tree.specs.declared.tree.Datum.{Datum}
+use Rattle.seq_tree.specs.declared.tree.Param.{Param}
+use Rattle.ada_tree.specs.Trees.{unit_of}
+use Rattle.machine.specs.Pieces as pieces
+use Rattle.machine.specs.Releases.{parameter}
+use Rattle.machine.specs.Systems.{System, ReleasePattern, Periodic, Requested}
+use Rattle.law_flat_code.specs.Codes.{TaskStands}
+use Rattle.linked.specs.Slots.{vars_at}
+use Rattle.linker.specs.Programs.{AreLinked, datum_names, param_names, request_params, task_part}
+use Rattle.linker.specs.Scopes.{slots_of}
+use Rattle.linker.specs.Standing.{Has, lists_of}
+use Rattle.linker.specs.declared.code.Ins.TheVariants as ins
+use Rattle.linker.specs.declared.program.LinkedUnits.{LinkedUnits}
+use Rattle.linker.proofs.Shared.Starts.{task_stands}
+use Rattle.task_runtime.specs.Effort as effort
+use Rattle.task_runtime.specs.Fitting.{FitsBlock}
+use Rattle.task_runtime.specs.Written as written
+use Rattle.task_runtime.specs.Written.{block_of_thread, data_names, reserve, system_of, thread_of, timing_of}
+use Rattle.task_runtime.specs.declared.thread.Thread.{Thread}
+use Rattle.linked_task.specs.Bodies.{Body, first_body, left_at, running, vars_here}
+use Rattle.linked_task.specs.Goings.{GoesOnAt}
+use Rattle.linked_task.specs.Lefts.{pieces_left, running_of, vars_by, vars_left}
+use Rattle.linked_task.specs.Settling.{IsAmid}
+use Rattle.linked_task.specs.Sounds.{AreSound, CanWork, IsAtWork, IsPieceAt, IsSound, IsStacked, IsTaskStart}
+use Rattle.linked_task.specs.declared.progress.Progress.{Progress}
+use Rattle.linked_task.specs.declared.stack.Stack.{Stack}
+use Rattle.linked_task.proofs.Calls.{system_is}
+use Rattle.linked_task.proofs.Entries.{begins_amid, begins_left, begins_vars, slots_stacked}
+
+pub same_params : (r : ReleasePattern) → request_params r ≡ effort.request_params r
+same_params (Periodic offset period) = refl
+same_params (Requested op ceiling separation jitter external) = refl
+
+-- how many names a task's block knows
+names_count : (th : Thread) → length (task_part (thread_of th)).names ≡ length (written.param_names th) + length th.«data».now
+names_count th =
+    length-append (param_names (request_params (timing_of th.timing))) (datum_names th.«data».now)
+    ∙ ap (λ k. k + length (datum_names th.«data».now)) (length-map (request_params (timing_of th.timing)) (λ (q : Param). q.name)
+    ∙ ap length (same_params (timing_of th.timing)) ∙ sym (length-map (effort.request_params (timing_of th.timing)) (λ (q : Param). q.name)))
+    ∙ ap (λ k. length (written.param_names th) + k) (length-map th.«data».now (λ (d : Datum). d.name))
+
+module _ (c : LinkedUnits) (s : Stack) (works : CanWork s.thread) (linked : AreLinked (map unit_of s.thread.units.now) c)
+    (start : IsTaskStart c s.thread s.start) where
+  abbrev y : System
+  y = system_of s.thread
+
+  stands : TaskStands (Has linked.leads (lists_of c.code)) (slots_of (task_part (thread_of s.thread)).names) s.start (block_of_thread s.thread)
+  stands =
+      let t = task_stands (map unit_of s.thread.units.now) c linked y (system_is s.thread) start.place (thread_of s.thread) start.task in
+      subst (λ k. TaskStands (Has linked.leads (lists_of c.code)) (slots_of (task_part (thread_of s.thread)).names) k (block_of_thread s.thread))
+      (same_Some t.0 s.start (sym t.1 ∙ start.starts)) t.2
+
+  first_sound : IsSound y linked.leads (lists_of c.code) ins.Finish (reserve s.thread) (first_body s.thread s.start)
+  first_sound = record {
+    stands = stands.0;
+    ends = stands.1;
+    fits = subst (λ k. FitsBlock (record { system = y; chain = []; inside = false; room = k }) (block_of_thread s.thread))
+        (let few : (n : ℕ) → n + 194 - suc n - 1 ≡ 192 = (λ n. omega arith) in few (length (written.param_names s.thread))) works.runs.block;
+    full = works.full;
+    ending = inl ([], refl);
+    room' = (let e = names_count s.thread in omega (arith, e));
+  }
+
+  module _ (away : s.slots.away ≡ []) (frames : s.frames.items ≡ []) (room : reserve s.thread ≤ length s.slots.here)
+      (more : length s.slots.here ≤ vec_capacity s.frames) where
+    first_stacked : IsStacked c s
+    first_stacked = record {
+      linked = linked;
+      works = works;
+      sound = subst (λ fs. AreSound y linked.leads (lists_of c.code) ins.Finish (reserve s.thread) (first_body s.thread s.start) fs s.slots.away)
+          (sym frames) (first_sound, away);
+      slots_room = (let e = ap length away in omega (arith, e, room));
+      frames_room = (let e = ap length away in omega (arith, e, more));
+    }
+
+    bare : running_of s ≡ first_body s.thread s.start
+    bare = ap (λ fs. running (first_body s.thread s.start) fs s.slots.away) frames
+
+    pub fresh_at_work : IsAtWork c (record { stack = s; at = s.start; piece = None })
+    fresh_at_work = record {
+      stacked = first_stacked;
+      amid = subst (λ (b : Body). IsAmid b.start b.block s.start) (sym bare) (begins_amid (first_body s.thread s.start) []);
+      piece = frames;
+    }
+
+-- stacks of which nothing but slots has changed
+pub stack_is : (s s' : Stack) → s'.thread ≡ s.thread → s'.start ≡ s.start → s'.frames ≡ s.frames → record s { slots = s'.slots } ≡ s'
+stack_is s s' thread start frames =
+    ap (λ z. record s { slots = s'.slots; thread = z }) (sym thread)
+    ∙ ap (λ z. record s { slots = s'.slots; thread = s'.thread; start = z }) (sym start)
+    ∙ ap (λ z. record s { slots = s'.slots; thread = s'.thread; start = s'.start; frames = z }) (sym frames)
+
+-- a task that runs no body
+module _ (c : LinkedUnits) (p : Progress) (h : IsAtWork c p) (none : p.piece ≡ None) where
+  abbrev s : Stack
+  s = p.stack
+
+  pub no_frames : s.frames.items ≡ []
+  no_frames = subst (IsPieceAt (lists_of c.code) s p.at) none h.piece
+
+  pub nothing_away : s.slots.away ≡ []
+  nothing_away =
+      (subst (λ fs. AreSound (system_of s.thread) h.stacked.linked.leads (lists_of c.code) ins.Finish (reserve s.thread) (first_body s.thread s.start)
+      fs s.slots.away) no_frames h.stacked.sound).1
+
+  pub room_there : reserve s.thread ≤ length s.slots.here
+  room_there = let e = ap length nothing_away in let le = h.stacked.slots_room in omega (arith, e, le)
+
+  module _ (s' : Stack) (thread : s'.thread ≡ s.thread) (start : s'.start ≡ s.start) (frames : s'.frames ≡ s.frames)
+      (away : s'.slots.away ≡ s.slots.away) (long : length s'.slots.here ≡ length s.slots.here) where
+    pub open_stacked : IsStacked c s'
+    open_stacked = subst (IsStacked c) (stack_is s s' thread start frames) (slots_stacked c s h.stacked s'.slots away long)
+
+    open_bare : running_of s' ≡ first_body s'.thread s'.start
+    open_bare = ap (λ fs. running (first_body s'.thread s'.start) fs s'.slots.away) (ap (λ v. v.items) frames ∙ no_frames)
+
+    pub open_amid : IsAmid (running_of s').start (running_of s').block s'.start
+    open_amid = subst (λ (b : Body). IsAmid b.start b.block s'.start) (sym open_bare) (begins_amid (first_body s'.thread s'.start) [])
+
+    pub open_pieces : (p' : Progress) → GoesOnAt c s' s'.start p' → pieces_left p' ≡ pieces.pieces (block_of_thread s.thread) (pieces.Finishing ∷ [])
+    open_pieces p' on =
+        on.pieces ∙ ap (λ b. left_at b true s'.start s'.slots.here) open_bare ∙ begins_left (first_body s'.thread s'.start) s'.slots.here
+        ∙ ap (λ th. pieces.pieces (block_of_thread th) (pieces.Finishing ∷ [])) thread
+
+    pub open_vars : (value : Option ℕ) (p' : Progress) → GoesOnAt c s' s'.start p'
+        → vars_at (slots_of (task_part (thread_of s.thread)).names) s'.slots.here
+        ≡ parameter (timing_of s.thread.timing) value ++ vars_at (slots_of (data_names s.thread)) s.slots.here
+        → vars_left p' ≡ parameter (timing_of s.thread.timing) value ++ vars_left p
+    open_vars value p' on vars =
+        on.vars ∙ ap (λ b. vars_here b true s'.start s'.slots.here) open_bare ∙ begins_vars (first_body s'.thread s'.start) s'.slots.here
+        ∙ ap (λ th. vars_at (slots_of (task_part (thread_of th)).names) s'.slots.here) thread ∙ vars
+        ∙ ap (λ vs. parameter (timing_of s.thread.timing) value ++ vs)
+        (sym (ap (λ q. vars_by q (data_names s.thread) (running_of s) p.at s.slots.here) none))
+
+pub new_at_work : (c : LinkedUnits) (th : Thread) (start room : ℕ) (s : Stack) → CanWork th → AreLinked (map unit_of th.units.now) c
+    → IsTaskStart c th start → reserve th ≤ room → s.thread ≡ th → s.start ≡ start → s.slots.away ≡ [] → s.frames.items ≡ []
+    → length s.slots.here ≡ room → room ≤ vec_capacity s.frames → IsAtWork c (record { stack = s; at = start; piece = None })
+new_at_work c th start room s works linked starts enough thread at away frames long more =
+    subst (λ k. IsAtWork c (record { stack = s; at = k; piece = None })) at
+    (fresh_at_work c s (subst CanWork (sym thread) works)
+    (subst (λ (t : Thread). AreLinked (map unit_of t.units.now) c) (sym thread) linked)
+    (subst (λ t. IsTaskStart c t s.start) (sym thread) (subst (IsTaskStart c th) (sym at) starts)) away frames
+    (let e = ap reserve thread in omega (arith, e, enough, long)) (omega (arith, long, more)))

@@ -1,0 +1,64 @@
+use Rattle.std.proofs.Common.{◌≡◌, ◌++◌, ℕ, true, List, ap, subst, ◌∙◌, arith, length}
+use Rattle.seq_tree.specs.Names.{Name, are_distinct}
+use Rattle.seq_tree.specs.Variables.{kept}
+use Rattle.linked.specs.Slots.{vars_at}
+use Rattle.linker.specs.Programs.{datum_names}
+use Rattle.linker.specs.Scopes.{slots_of}
+use Rattle.task_runtime.specs.Stacked.{vars_of}
+use Rattle.linked_task.specs.Lefts.{vars_left}
+use Rattle.linked_task.proofs.Dones.{returned_inside}
+use Rattle.linked_task.proofs.Endings.{data_kept, data_named, end_data, end_object, ended_data, out_fits}
+use Rattle.linked_task.proofs.Reaching.{close_ends}
+use Rattle.linked_task.proofs.progress.Progress.leave.Goals as goal
+
+pub keep_data-requires-clause-room : goal.keep_data-requires-clause-room
+keep_data-requires-clause-room c =
+    let s = c.args.self.now.stack in
+    let cases = rw c.as_slice.ensures.value at c.in-Some.ensures.cases in
+    let g = end_object c.args.code.now s c.requires.at_work.stacked c.in-Some.field-0-1.now c.in-Some.frame.now cases.0 c.args.entry.object
+    c.args.entry.place c.requires.entry in
+    let le = c.requires.room g.0 g.1 in
+    let same = ap length g.2 in
+    omega (arith, le, same)
+
+pub keep_data-requires-clause-there : goal.keep_data-requires-clause-there
+keep_data-requires-clause-there c =
+    let s = c.args.self.now.stack in
+    let cases = rw c.as_slice.ensures.value at c.in-Some.ensures.cases in
+    let le = out_fits c.args.code.now s c.requires.at_work.stacked c.in-Some.field-0-1.now c.in-Some.frame.now cases.0 in
+    let same = ap length c.here.ensures in
+    omega (arith, le, same)
+
+pub returns-clause-does : goal.returns-clause-does
+returns-clause-does c =
+    let code = c.args.code.now in
+    let p = c.args.self.now in
+    let h = c.requires.at_work in
+    let ends = close_ends p.piece c.requires.piece in
+    let o : ℕ × ℕ = (c.args.entry.object, c.args.entry.place) in
+    let fs = c.in-Some.field-0-1.now in
+    let f = c.in-Some.frame.now in
+    let cases = rw c.as_slice.ensures.value at c.in-Some.ensures.cases in
+    let vars = f.body.vars.now in
+    let data' = vars_of c.keep_data.new.into.items in
+    let keeps = subst (λ slots. (ns : List Name) → are_distinct (ns ++ datum_names vars) ≡ true
+    → data' ≡ kept vars (vars_at (slots_of (ns ++ datum_names vars)) slots)) c.here.ensures c.keep_data.ensures.kept in
+    let same = ended_data code p h ends fs f cases.0 c.end_call.result c.end_call.new.self c.end_call.ensures o c.requires.entry in
+    returned_inside code p c.end_call.new.self c.end_call.result c.end_call.ensures c.args.entry.object c.args.entry.place data' c.requires.entry
+    (data_kept code p h ends fs f cases.0 data' keeps ∙ ap (λ ds. kept ds (vars_left p)) same)
+
+pub returns-clause-names : goal.returns-clause-names
+returns-clause-names c = λ g there.
+    let code = c.args.code.now in
+    let p = c.args.self.now in
+    let h = c.requires.at_work in
+    let ends = close_ends p.piece c.requires.piece in
+    let fs = c.in-Some.field-0-1.now in
+    let f = c.in-Some.frame.now in
+    let cases = rw c.as_slice.ensures.value at c.in-Some.ensures.cases in
+    let vars = f.body.vars.now in
+    let data' = vars_of c.keep_data.new.into.items in
+    let keeps = subst (λ slots. (ns : List Name) → are_distinct (ns ++ datum_names vars) ≡ true
+    → data' ≡ kept vars (vars_at (slots_of (ns ++ datum_names vars)) slots)) c.here.ensures c.keep_data.ensures.kept in
+    data_named code p h ends fs f cases.0 data' (data_kept code p h ends fs f cases.0 data' keeps)
+    ∙ ap datum_names (end_data code p.stack h.stacked fs f cases.0 c.args.entry.object c.args.entry.place c.requires.entry g there)

@@ -1,0 +1,10 @@
+pub mod Slotted
+pub mod Silences
+pub mod Bodies
+pub mod Lefts
+pub mod Settling
+pub mod Sounds
+pub mod Handing
+pub mod Doings
+pub mod Goings
+pub mod Works

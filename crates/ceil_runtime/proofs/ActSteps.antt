@@ -11,13 +11,16 @@ use Rattle.machine.specs.States.{Resource}
 use Rattle.machine.specs.Deeds as deeds
 use Rattle.machine.specs.Deeds.{deed, done}
 use Rattle.machine.specs.Effects.{acted, ceiling_of, entry, section_unit, entered_at, exit, inside_now, lending, lent, outside_now}
-use Rattle.task_runtime.specs.Works.{task_of, EffortFalls, IsNested}
-use Rattle.task_runtime.specs.declared.task.Task.{Task}
+use Rattle.task_runtime.specs.Works.{EffortFalls, IsNested}
+use Rattle.linked_task.specs.Works.{task_of}
+use Rattle.linked_task.specs.declared.task.Task.{Task}
+use Rattle.linked_task.specs.Sounds.{IsAtWork}
 use Rattle.ceil_runtime.specs.Snapshots.{IsWholeAt, Snapshot, system_at, state_at}
 use Rattle.ceil_runtime.specs.Stepping.{AreOfTask, Steps, Ends, told_of, GoesOn}
 use Rattle.ceil_runtime.specs.declared.processor.Told.TheVariants.{One, Nothing, Two}
 use Rattle.ceil_runtime.proofs.Phases.{acting}
-use Rattle.ceil_runtime.proofs.Processed.{follows-of, step-run, Changed, changed-system, changed-tasks, get-put, get_within, here-of}
+use Rattle.ceil_runtime.proofs.Processed.{follows-of, step-run, Changed, changed-at-work, changed-system, changed-tasks, get-put, get_within}
+use Rattle.ceil_runtime.proofs.Processed.{here-of, same-at-work}
 use Rattle.ceil_runtime.proofs.Sectioned.{deed-step, stops, entered-differs, entered-sound, entered-step, left-differs, left-sound, left-queued}
 use Rattle.ceil_runtime.proofs.Stepped.{effect_state, acted_to, effect-step, fewer-after}
 use Rattle.machine.specs.Releases.{going, after, is_waiting, released, serve}
@@ -39,7 +42,7 @@ use Rattle.task_runtime.specs.Effort.{effort, most_ends, sections_among}
 use Rattle.ceil_runtime.specs.Processing.{IsKept, IsSound, order_of}
 use Rattle.task_runtime.specs.Readies.{readiness_of}
 use Rattle.task_runtime.specs.Written.{reserve}
-use Rattle.task_runtime.specs.declared.task.Readiness.TheVariants as readies
+use Rattle.task_runtime.specs.declared.readiness.Readiness.TheVariants as readies
 use Rattle.ceil_runtime.specs.declared.processor.Phase.TheVariants.{Effects}
 use Rattle.ceil_runtime.proofs.Effected.{moved-sound, order-queued}
 use Rattle.ceil_runtime.proofs.Nearing.{fewer-effects, reserve-most}
@@ -75,7 +78,7 @@ module _ (s : Snapshot) (i : ℕ) (whole : IsWholeAt (acting s i)) (t t' : Task)
     (does : done (system_at s) piece (task_of t).vars rest ≡ deed act vars pieces)
     (thread : t'.progress.stack.thread ≡ t.progress.stack.thread) (works : t'.works ≤ t.works + min t'.left 1)
     (falls : EffortFalls t.progress.stack.thread (task_of t) (task_of t'))
-    (nests : IsNested (task_of t) → IsNested (task_of t')) where
+    (nests : IsNested (task_of t) → IsNested (task_of t')) (at' : IsAtWork s.code t'.progress) where
   abbrev section_tasks : List Task
   section_tasks = set s.tasks i t'
 
@@ -111,6 +114,7 @@ module _ (s : Snapshot) (i : ℕ) (whole : IsWholeAt (acting s i)) (t t' : Task)
         (changed-system s.tasks section_tasks i t t' _ enter_changed s.until s.costs s.units)
         (entered-sound s.stores s.arrivals s.until s.time s.costs s.units i s.tasks s.queues whole.sound t here due section (told_of told) vars pieces
         section_tasks t' enter_changed low works nests)
+        (changed-at-work s.tasks section_tasks i t t' _ enter_changed s.code whole.at_work at')
         ends of less (omega (arith, less, sleep, same, few))
 
   -- the exit from the section that was entered last, where nobody is released by it
@@ -139,6 +143,7 @@ module _ (s : Snapshot) (i : ℕ) (whole : IsWholeAt (acting s i)) (t t' : Task)
         (changed-system s.tasks section_tasks i t t' _ exit_changed s.until s.costs s.units)
         (left-sound s.stores s.arrivals s.until s.time s.costs s.units i s.tasks s.queues whole.sound t here due vars pieces section_tasks t'
         exit_changed works nests)
+        (changed-at-work s.tasks section_tasks i t t' _ exit_changed s.code whole.at_work at')
         ends of less (omega (arith, less, sleep, same, few))
 
 -- a task whose control structure has changed
@@ -150,7 +155,8 @@ module _ (s : Snapshot) (i : ℕ) (whole : IsWholeAt (acting s i)) (t t' : Task)
     (does : done (system_at s) piece (task_of t).vars rest ≡ deed act vars pieces)
     (thread : t'.progress.stack.thread ≡ t.progress.stack.thread) (works : t'.works ≤ t.works + min t'.left 1)
     (falls : EffortFalls t.progress.stack.thread (task_of t) (task_of t'))
-    (nests : IsNested (task_of t) → IsNested (task_of t')) (tasks' : List Task) (items : tasks' ≡ set s.tasks i t') where
+    (nests : IsNested (task_of t) → IsNested (task_of t')) (at' : IsAtWork s.code t'.progress) (tasks' : List Task)
+    (items : tasks' ≡ set s.tasks i t') where
   abbrev requests_orders : List ℤ
   requests_orders = places (length s.tasks) (order_of (Effects (Some i)) s.tasks s.queues.ready)
 
@@ -167,7 +173,8 @@ module _ (s : Snapshot) (i : ℕ) (whole : IsWholeAt (acting s i)) (t t' : Task)
   module _ (task : task_of t' ≡ going s.costs vars pieces (task_of t)) (k : ℕ) (g : states.Task → states.Gate)
       (gates : acted (system_at s) i (task_of t) act vars pieces (effect_state s i)
       ≡ (record (effect_state s i) { tasks = change k (gated g) (change i (going s.costs vars pieces) (map task_of s.tasks)) }, []))
-      (u u' : Task) (tasks'' : List Task) (c : Changed tasks' tasks'' k u u' (gated g)) (ready : u'.readiness ≡ u.readiness) where
+      (u u' : Task) (tasks'' : List Task) (c : Changed tasks' tasks'' k u u' (gated g)) (ready : u'.readiness ≡ u.readiness)
+      (progress : u'.progress ≡ u.progress) where
     gate_changed : Changed s.tasks tasks' i t t' (going s.costs vars pieces)
     gate_changed = record { here = here; set_is = items; does = task; thread = thread }
 
@@ -277,6 +284,8 @@ module _ (s : Snapshot) (i : ℕ) (whole : IsWholeAt (acting s i)) (t t' : Task)
         system_is
         (gate-sound s.until s.time s.units i tasks' s.queues gate_whole k tasks'' u u' (gated g) c (λ v. (refl, refl)) ready
         (ap (λ v. v.left) c.does) (ap (λ v. v.used) c.does) (ap (λ v. v.works) c.does) (ap (λ v. v.next) c.does) gate_nests)
+        (same-at-work tasks' tasks'' k u u' (gated g) c s.code
+        (changed-at-work s.tasks tasks' i t t' _ gate_changed s.code whole.at_work at') progress)
         refl tt less (omega (arith, less, sleep, sleep', one, two))
 
   -- the end of a request, by which the task that is requested is released, since it waits and its control structure is open
@@ -285,7 +294,7 @@ module _ (s : Snapshot) (i : ℕ) (whole : IsWholeAt (acting s i)) (t t' : Task)
       ≡ after (asks ∷ []) (serve (system_at s) k (exit (system_at s) i vars pieces (effect_state s i))))
       (u u' : Task) (tasks'' : List Task) (c : Changed tasks' tasks'' k u u' (released s.costs))
       (waits : u.readiness ≡ readies.Waiting) (is_open : u.gate.«open» ≡ true)
-      (works' : u'.works ≤ u.works + min u'.left 1) (q' : Queues)
+      (works' : u'.works ≤ u.works + min u'.left 1) (now' : IsAtWork s.code u'.progress) (q' : Queues)
       (links : q' ≡ record s.queues { ready = at_tail (k, (task_of u').active) s.queues.ready })
       (of : AreOfTask s.tasks (Two asks (event.Release s.time u.progress.stack.thread.unit (task_of u).gate.value))) where
     answer_changed : Changed s.tasks tasks' i t t' (λ v. going s.costs vars pieces (outside_now v))
@@ -376,4 +385,5 @@ module _ (s : Snapshot) (i : ℕ) (whole : IsWholeAt (acting s i)) (t t' : Task)
         (at_tail (k, (task_of u').active) s.queues.ready) answer_tasks answer_queued answer_state refl refl refl))
         system_is
         (release-sound s.until s.time s.costs s.units i tasks' s.queues answer_whole t' requests_now k tasks'' u u' c waits q' links works')
+        (changed-at-work tasks' tasks'' k u u' _ c s.code (changed-at-work s.tasks tasks' i t t' _ answer_changed s.code whole.at_work at') now')
         (goes, tt, refl) of less (omega (arith, less, sleep, sleep', one, two))

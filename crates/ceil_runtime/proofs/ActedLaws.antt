@@ -10,35 +10,34 @@ use Rattle.machine.specs.States as states
 use Rattle.machine.specs.States.{Control}
 use Rattle.machine.specs.Effects.{acted, ceiling_of, inside_now, outside_now}
 use Rattle.machine.specs.Releases.{Next, going, is_waiting, released}
-use Rattle.task_runtime.specs.Doing.{act_of, is_silent}
+use Rattle.task_runtime.specs.Doing.{act_of}
 use Rattle.task_runtime.specs.Effort.{sections_among}
 use Rattle.task_runtime.specs.Readies.{is_ready}
-use Rattle.task_runtime.specs.Works.{ActsAs, task_of}
+use Rattle.linked_task.specs.Works.{ActsAs, task_of}
 use Rattle.task_runtime.specs.Written.{system_of}
 use Rattle.task_runtime.specs.declared.effects.Act.{Act}
 use Rattle.task_runtime.specs.declared.effects.Act.TheVariants.{Silent, Print, Ask, Keep, Open, Ended, Finish}
-use Rattle.task_runtime.specs.declared.effects.Deed.TheVariants as to
-use Rattle.task_runtime.specs.declared.piece.Piece.{Piece}
-use Rattle.task_runtime.specs.declared.task.Readiness.TheVariants as readies
-use Rattle.task_runtime.specs.declared.task.Task.{Task}
+use Rattle.linked_task.specs.declared.piece.Deed.TheVariants as to
+use Rattle.task_runtime.specs.declared.readiness.Readiness.TheVariants as readies
+use Rattle.linked_task.specs.declared.task.Task.{Task}
+use Rattle.linked_task.specs.Sounds.{IsAtWork}
 use Rattle.ceil_runtime.specs.Acted.{HasActed, with_tasks}
-use Rattle.ceil_runtime.specs.Alone.{GoesAlone, IsAlone}
 use Rattle.ceil_runtime.specs.Processing.{IsKept, IsSound}
 use Rattle.ceil_runtime.specs.Snapshots.{IsWholeAt, Snapshot, system_at}
-use Rattle.ceil_runtime.specs.Stepping.{Steps, steps_left}
+use Rattle.ceil_runtime.specs.Stepping.{Steps}
 use Rattle.ceil_runtime.specs.declared.processor.Phase.TheVariants.{Effects}
 use Rattle.ceil_runtime.specs.declared.processor.Told.{Told}
 use Rattle.ceil_runtime.specs.declared.processor.Told.TheVariants.{Nothing, One, Two}
 use Rattle.ceil_runtime.proofs.ActSteps.{gate-step, gated}
-use Rattle.ceil_runtime.proofs.Alone.{silent-goes}
 use Rattle.ceil_runtime.proofs.Effected.{running-free}
 use Rattle.ceil_runtime.proofs.EntrySteps.{answered-step, ask-step, left-whole, ready-each, same-put, unserved-step, waits-open}
 use Rattle.ceil_runtime.proofs.Phases.{acting, in-acting, step-beside, whole-acting}
-use Rattle.ceil_runtime.proofs.Processed.{get-put, get_within, runs-alike, set-twice}
+use Rattle.ceil_runtime.proofs.Processed.{get-put, get_within, put-at-work, runs-alike, set-twice}
 use Rattle.ceil_runtime.proofs.Reached.{among-tasks}
 use Rattle.ceil_runtime.proofs.Released.{waiting-free}
 use Rattle.ceil_runtime.proofs.Stepped.{effect_state, finish-rests, going-step, served-step, sleep-step, wait-step}
-use Rattle.task_runtime.proofs.Shared.AtWork.{ask-is, nests-going, reached-act}
+use Rattle.task_runtime.proofs.Shared.AtWork.{ask-is}
+use Rattle.linked_task.proofs.Shared.AtWork.{nests-going, reached-act}
 
 module _ (ts : List Task) (s : Snapshot) (i : ℕ) (act : Act) (t t' : Task) (h : HasActed ts s i act t t') where
   acted_there : slice_get s.tasks i ≡ Some t'
@@ -83,16 +82,6 @@ module _ (ts : List Task) (s : Snapshot) (i : ℕ) (act : Act) (t t' : Task) (h 
       subst (λ xs. Steps (with_tasks ts s) told (record s { tasks = xs })) (sym h.tasks)
       (step-beside (with_tasks ts s) i h.acting told (record s { tasks = set ts i t' }) refl refl refl step)
 
-  -- a piece that is nothing to others
-  pub goes-acted : (p : Piece) → t.progress.piece ≡ Some p → is_silent p ≡ true → (limit : ℕ) → IsAlone (with_tasks ts s) i limit
-      → GoesAlone (with_tasks ts s) s i limit × (steps_left s < steps_left (with_tasks ts s))
-  goes-acted p started silent limit alone =
-      let after : Snapshot → Snapshot = λ x. record x { tasks = set ts i t' } in
-      subst (λ xs. GoesAlone (with_tasks ts s) (record s { tasks = xs }) i limit
-      × (steps_left (record s { tasks = xs }) < steps_left (with_tasks ts s))) (sym h.tasks)
-      (in-acting (with_tasks ts s) i h.acting (λ x. IsAlone x i limit → GoesAlone x (after x) i limit × (steps_left (after x) < steps_left x))
-      (λ whole. silent-goes (with_tasks ts s) i whole t t' h.here h.due p started silent act h.done limit) alone)
-
   -- one that asks for the control structure of another task
   pub acted-asks : (k : ℕ) → ActsAs (system_of t.progress.stack.thread) (task_of t) (to.Ask k) → HasActed ts s i (Ask k) t t'
   acted-asks k reaches =
@@ -116,9 +105,9 @@ module _ (ts : List Task) (s : Snapshot) (i : ℕ) (act : Act) (t t' : Task) (h 
         step-beside (with_tasks ts s) i h.acting Nothing (with_tasks (set s.tasks k u') s) refl refl refl
         (λ whole. gate-step (with_tasks ts s) i whole t t' h.here h.due a.piece a.rest a.pieces a.vars (act_of act) a.first
         (a.does (system_at (with_tasks ts s)) (runs-alike s.until s.costs s.units ts whole.sound.calls i t h.here))
-        h.done.thread h.done.works h.done.falls (nests-going t t' s.costs a.vars a.pieces task inside) s.tasks h.tasks
+        h.done.thread h.done.works h.done.falls (nests-going t t' s.costs a.vars a.pieces task inside) h.done.at_work s.tasks h.tasks
         task k g gates u u' (set s.tasks k u')
-        (record { here = there; set_is = refl; does = does; thread = ap (λ p. p.stack.thread) progress }) ready)
+        (record { here = there; set_is = refl; does = does; thread = ap (λ p. p.stack.thread) progress }) ready progress)
 
 module _ (ts : List Task) (s : Snapshot) (i : ℕ) (t t' : Task) where
   pub silent-acted : HasActed ts s i Silent t t' → Steps (with_tasks ts s) Nothing s
@@ -149,7 +138,8 @@ module _ (ts : List Task) (s : Snapshot) (i : ℕ) (t t' : Task) where
   ask-acted k h t'' progress ceiling ceiling_is inside low =
       subst (λ xs. Steps (with_tasks ts s) Nothing (record s { tasks = xs })) (sym (acted-set ts s i (Ask k) t t' h t''))
       (step-beside (with_tasks ts s) i h.acting Nothing (record s { tasks = set ts i t'' }) refl refl refl
-      (λ whole. ask-step (with_tasks ts s) i whole t h.here h.due t' t'' h.done.thread progress h.done.works h.done.falls k h.done.acts h.done.inside
+      (λ whole. ask-step (with_tasks ts s) i whole t h.here h.due t' t'' h.done.thread progress h.done.works h.done.falls h.done.at_work k
+      h.done.acts h.done.inside
       ceiling ceiling_is inside low))
 
   -- the parts of a request
@@ -201,14 +191,15 @@ module _ (ts : List Task) (s : Snapshot) (i : ℕ) (t t' : Task) (h : HasActed t
       (acted-set ts s i Finish t t' h t') not shut)
 
   pub served-acted : (t'.readiness ≡ readies.Asleep → ⊥) → t'.gate.«open» ≡ true → (t'' : Task) → task_of t'' ≡ released s.costs (task_of t')
-      → t''.progress.stack.thread ≡ t'.progress.stack.thread → t''.works ≤ t'.works + min t''.left 1 → 0 < t''.left → (q' : Queues)
+      → t''.progress.stack.thread ≡ t'.progress.stack.thread → t''.works ≤ t'.works + min t''.left 1 → 0 < t''.left
+      → IsAtWork s.code t''.progress → (q' : Queues)
       → q' ≡ record s.queues { ready = at_tail (i, (task_of t'').active) s.queues.ready }
       → Steps (with_tasks ts s) (Two (event.End s.time t'.progress.stack.thread.unit t'.used)
       (event.Release s.time t'.progress.stack.thread.unit t'.gate.value))
       (record s { phase = Effects None; tasks = set s.tasks i t''; queues = q' })
-  served-acted not is_open t'' task thread works some q' links =
+  served-acted not is_open t'' task thread works some at'' q' links =
       ended_step _ (set s.tasks i t'') q' (λ whole. served-step (with_tasks ts s) i whole t t' h.here h.due h.done s.tasks h.tasks t'' task thread
-      works some not is_open q' links)
+      works some at'' not is_open q' links)
 
 -- the end of a request, once the task has left the control structure of the one that it requested
 pub record HasLeft (ts : List Task) (s : Snapshot) (i k : ℕ) (value : Option ℕ) (t t' t'' u : Task) : Type 0 where
@@ -245,6 +236,11 @@ module _ (ts : List Task) (s : Snapshot) (i k : ℕ) (value : Option ℕ) (t t' 
       left-whole (with_tasks ts s) i (acted-whole ts s i (Ended k value) t t' a) t a.here a.due t' t'' a.done.thread h.progress a.done.works k value
       a.done.acts a.done.inside h.outside
 
+  pub left-at-work : IsAtWork s.code u.progress
+  left-at-work =
+      put-at-work s.code ts i t'' (acted-whole ts s i (Ended k value) t t' h.acted).at_work
+      (subst (IsAtWork s.code) (sym h.progress) h.acted.done.at_work) k u left_at
+
   left_kept : IsKept s.until s.time s.units u
   left_kept = left_sound.kept k u left_at
 
@@ -269,21 +265,23 @@ module _ (ts : List Task) (s : Snapshot) (i k : ℕ) (value : Option ℕ) (t t' 
       let told = One (event.Request s.time t'.progress.stack.thread.unit u.progress.stack.thread.unit value) in
       subst (λ xs. Steps (with_tasks ts s) told (with_tasks xs s)) (sym (same-put s.tasks i t'' k u h.there ∙ left_same))
       (step-beside (with_tasks ts s) i a.acting told (with_tasks (set ts i t'') s) refl refl refl
-      (λ whole. unserved-step (with_tasks ts s) i whole t a.here a.due t' t'' a.done.thread h.progress a.done.works a.done.falls k value a.done.acts
+      (λ whole. unserved-step (with_tasks ts s) i whole t a.here a.due t' t'' a.done.thread h.progress a.done.works a.done.falls a.done.at_work k
+      value a.done.acts
       a.done.inside h.outside u left_at not))
 
   -- the task that was requested is released
   pub answered-acted : (is_waiting (task_of u).readiness && (task_of u).gate.open') ≡ true → (u' : Task) → task_of u' ≡ released s.costs (task_of u)
-      → u'.progress.stack.thread ≡ u.progress.stack.thread → u'.works ≤ u.works + min u'.left 1 → (q' : Queues)
+      → u'.progress.stack.thread ≡ u.progress.stack.thread → u'.works ≤ u.works + min u'.left 1 → IsAtWork s.code u'.progress → (q' : Queues)
       → q' ≡ record s.queues { ready = at_tail (k, (task_of u').active) s.queues.ready }
       → Steps (with_tasks ts s) (Two (event.Request s.time t'.progress.stack.thread.unit u.progress.stack.thread.unit value)
       (event.Release s.time u'.progress.stack.thread.unit u.gate.value)) (record s { tasks = set (set s.tasks i t'') k u'; queues = q' })
-  answered-acted served u' task thread works q' links =
+  answered-acted served u' task thread works now' q' links =
       let a = h.acted in
       let waits = waits-open u served in
       let told = Two (event.Request s.time t'.progress.stack.thread.unit u.progress.stack.thread.unit value)
       (event.Release s.time u'.progress.stack.thread.unit u.gate.value) in
       subst (λ xs. Steps (with_tasks ts s) told (record s { tasks = set xs k u'; queues = q' })) (sym left_same)
       (step-beside (with_tasks ts s) i a.acting told (record s { tasks = set (set ts i t'') k u'; queues = q' }) refl refl refl
-      (λ whole. answered-step (with_tasks ts s) i whole t a.here a.due t' t'' a.done.thread h.progress a.done.works a.done.falls k value a.done.acts
-      a.done.inside h.outside u u' left_at task thread waits.0 waits.1 works q' links))
+      (λ whole. answered-step (with_tasks ts s) i whole t a.here a.due t' t'' a.done.thread h.progress a.done.works a.done.at_work a.done.falls k
+      value a.done.acts
+      a.done.inside h.outside u u' left_at task thread waits.0 waits.1 works now' q' links))

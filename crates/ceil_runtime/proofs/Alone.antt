@@ -1,5 +1,5 @@
 -- A task that goes on alone: what many ticks and their empty parts come to, and how its steps follow each other.
-use Rattle.std.specs.Prelude.{◌≡◌, ◌⊎◌, ℕ, zero, suc, ◌+◌, ◌-◌, ◌*◌, ◌<◌, ◌≤◌, max, Bool, true, false, nat_le, nat_lt, if◌then◌else◌, List, [], ◌∷◌}
+use Rattle.std.specs.Prelude.{◌≡◌, ◌⊎◌, ℕ, zero, suc, ◌+◌, ◌-◌, ◌*◌, ◌<◌, ◌≤◌, max, false, nat_le, nat_lt, if◌then◌else◌, List, [], ◌∷◌}
 use Rattle.std.specs.Prelude.{drop, map, set, Option, Some, None, option_map, slice_get, refl}
 use Rattle.std.proofs.Common.{sym, ◌∙◌, ap, subst, arith, inl, inr}
 use Rattle.std.proofs.lemmas.Bool.Decides.{nat_tests}
@@ -14,44 +14,37 @@ use Rattle.machine.specs.Systems.{System}
 use Rattle.machine.specs.States as states
 use Rattle.law_dispatching.specs.Jumping.{NoArrival}
 use Rattle.law_dispatching.specs.Queueing.{AreSleeping, SleepsUntil}
-use Rattle.ceil_runtime.specs.Acted.{HasDone, IsActing}
+use Rattle.ceil_runtime.specs.Acted.{IsActing}
+use Rattle.linked_task.specs.Alongs.{HasDone, OneAlong, SoMany}
 use Rattle.ceil_runtime.specs.Alone.{GoesAlone, IsAlone, threads_at}
 use Rattle.task_runtime.specs.Effort.{most_ends}
 use Rattle.ceil_runtime.specs.Left.{ran_effort}
 use Rattle.ceil_runtime.specs.Processing.{Follows, IsBelow, IsSound, IsWithin, state_by, system_by}
-use Rattle.ceil_runtime.specs.Snapshots.{IsWholeAt, Snapshot, running_at}
-use Rattle.ceil_runtime.specs.Stepping.{AreOfTask, HasObject, HasOp, HasUnit, IsNear, IsOfTask, Steps, steps_by, steps_left, told_of}
-use Rattle.task_runtime.specs.Works.{Acts, task_of, used_ticks}
+use Rattle.ceil_runtime.specs.Snapshots.{AreAtWork, IsWholeAt, Snapshot, running_at}
+use Rattle.ceil_runtime.specs.Stepping.{AreOfTask, HasObject, HasOp, HasUnit, IsNear, IsOfTask, Steps, steps_by, told_of}
+use Rattle.task_runtime.specs.Works.{used_ticks}
+use Rattle.linked_task.specs.Works.{task_of}
 use Rattle.task_runtime.specs.Written.{system_of}
-use Rattle.task_runtime.specs.Doing.{StaysOutside, act_of, is_silent}
-use Rattle.task_runtime.specs.Framed.{frames_of}
-use Rattle.task_runtime.specs.Progresses.{kept, piece_of, started, with_parts}
-use Rattle.task_runtime.specs.declared.effects.Act.{Act}
+use Rattle.linker.specs.declared.program.LinkedUnits.{LinkedUnits}
 use Rattle.task_runtime.specs.declared.effects.Act.TheVariants as acts
-use Rattle.task_runtime.specs.declared.piece.Piece as piece
-use Rattle.task_runtime.specs.declared.piece.Piece.TheVariants as is
-use Rattle.machine.specs.Deeds as deeds
-use Rattle.machine.specs.Deeds.{deed, done}
-use Rattle.machine.specs.Pieces as pieces
-use Rattle.seq_tree.specs.Trees.{expression_of}
-use Rattle.seq_tree.specs.Values.{holds}
 use Rattle.trace_tree.specs.declared.event.Event.{Event}
 use Rattle.trace_tree.specs.declared.event.Event.TheVariants as event
 use Rattle.ceil_runtime.specs.declared.processor.Phase.TheVariants.{Effects, Delays, Arriving, Use}
 use Rattle.ceil_runtime.specs.declared.processor.Told.{Told}
 use Rattle.ceil_runtime.specs.declared.processor.Told.TheVariants.{Nothing, One, Two}
-use Rattle.task_runtime.specs.declared.task.Task.{Task}
+use Rattle.linked_task.specs.declared.task.Task.{Task}
 use Rattle.task_runtime.specs.declared.thread.Thread.{Thread}
 use Rattle.ceil_runtime.proofs.Aheads.{wake-most}
 use Rattle.ceil_runtime.proofs.Advancing.{follows-none, follows-then}
 use Rattle.ceil_runtime.proofs.Effected.{end-run, end-sound}
 use Rattle.ceil_runtime.proofs.Falling.{falls-use, left_by}
 use Rattle.ceil_runtime.proofs.Nearing.{nears-ticks, ran-few}
-use Rattle.ceil_runtime.proofs.Phases.{acting}
-use Rattle.ceil_runtime.proofs.Processed.{Changed, arriving-goes, changed-system, follows-of, get-set_same, get_within, still-reached, use-run, use-sound}
+use Rattle.ceil_runtime.proofs.Phases.{acting, in-acting}
+use Rattle.ceil_runtime.proofs.Processed.{Changed, arriving-goes, changed-system, follows-of, get-put, get-set_same, get_within, same-at-work}
+use Rattle.ceil_runtime.proofs.Processed.{set-twice, still-reached, use-run, use-sound}
 use Rattle.ceil_runtime.proofs.Released.{delays-over, going-active}
 use Rattle.ceil_runtime.proofs.Stepped.{going-step}
-use Rattle.task_runtime.proofs.Shared.AtWork.{nests-going}
+use Rattle.linked_task.proofs.Shared.AtWork.{nests-going}
 
 -- put before its equals, a task that no other goes before is the first
 ahead-of : (i active : ℕ) (ready : List Entry) → IsBelow active ready → at_head (i, active) ready ≡ (i, active) ∷ ready
@@ -75,7 +68,7 @@ module _ (stores : List Variables) (arrivals : List Arrival) (until time : ℕ) 
     (q : Queues) (sound : IsSound until time (Effects (Some i)) (Some i) us tasks q) (t t' : Task) (tasks' : List Task) (ticks : ℕ)
     (c : Changed tasks tasks' i t t' (used_ticks ticks)) (all : t.left ≡ ticks) (some : 0 < ticks) (horizon : time + ticks ≤ until)
     (wake : Each (λ e. time + ticks ≤ e.1) q.asleep) (quiet : (n : ℕ) → time ≤ n → n < time + ticks → NoArrival n arrivals)
-    (below : IsBelow t.active q.ready) (ready : t'.readiness ≡ t.readiness) where
+    (below : IsBelow t.active q.ready) (ready : t'.readiness ≡ t.readiness) (code : LinkedUnits) (at_work' : AreAtWork code tasks') where
   abbrev ahead : List Entry
   ahead = at_head (i, (task_of t).active) q.ready
 
@@ -177,7 +170,7 @@ module _ (stores : List Variables) (arrivals : List Arrival) (until time : ℕ) 
   passed-follows = follows-then _ _ _ [] ended (follows-then _ _ _ [] waited (follows-then _ _ _ [] arrived used))
 
   few : ran_effort (most_ends (system_by until costs us tasks')) (map task_of tasks') (Some i) ≤ most_ends (system_by until costs us tasks')
-  few = ran-few until (time + ticks) costs us tasks' (Some i) passed-sound.kept
+  few = ran-few until (time + ticks) costs us tasks' (Some i) passed-sound.kept code at_work'
 
   same_system : system_by until costs us tasks' ≡ runs
   same_system = changed-system tasks tasks' i t t' (used_ticks ticks) c until costs us
@@ -216,12 +209,15 @@ still-below tasks i t t' ready here same below u at =
 module _ (s : Snapshot) (i : ℕ) (whole : IsWholeAt (acting s i)) (limit : ℕ) (alone : IsAlone (acting s i) i limit) (t t' : Task) (ticks : ℕ)
     (here : slice_get s.tasks i ≡ Some t) (all : t.left ≡ ticks) (some : 0 < ticks) (fits : s.time + ticks ≤ limit)
     (does : task_of t' ≡ used_ticks ticks (task_of t)) (thread : t'.progress.stack.thread ≡ t.progress.stack.thread)
-    (ready : t'.readiness ≡ t.readiness) where
+    (ready : t'.readiness ≡ t.readiness) (progress : t'.progress ≡ t.progress) where
   abbrev tasks_now : List Task
   tasks_now = set s.tasks i t'
 
   changed : Changed s.tasks tasks_now i t t' (used_ticks ticks)
   changed = record { here = here; set_is = refl; does = does; thread = thread }
+
+  pass_at_work : AreAtWork s.code tasks_now
+  pass_at_work = same-at-work s.tasks tasks_now i t t' (used_ticks ticks) changed s.code whole.at_work progress
 
   horizon_then : s.time + ticks ≤ s.until
   horizon_then = omega (arith, fits, alone.horizon)
@@ -237,15 +233,15 @@ module _ (s : Snapshot) (i : ℕ) (whole : IsWholeAt (acting s i)) (limit : ℕ)
 
   pass-follows : Follows (running_at (acting s i)) [] (running_at (record (acting s i) { time = s.time + ticks; tasks = tasks_now }))
   pass-follows = passed-follows s.stores s.arrivals s.until s.time s.costs s.units i s.tasks s.queues whole.sound t t' tasks_now ticks changed all
-      some horizon_then wake_then quiet_then below_then ready
+      some horizon_then wake_then quiet_then below_then ready s.code pass_at_work
 
   pub pass-goes : GoesAlone (acting s i) (record (acting s i) { time = s.time + ticks; tasks = tasks_now }) i limit
   pass-goes = record {
     acting = record {
       whole = record {
         sound = passed-sound s.stores s.arrivals s.until s.time s.costs s.units i s.tasks s.queues whole.sound t t' tasks_now ticks changed all some
-            horizon_then wake_then quiet_then below_then ready;
-        callees = whole.callees;
+            horizon_then wake_then quiet_then below_then ready s.code pass_at_work;
+        at_work = pass_at_work;
         reached = still-reached whole pass-follows;
       };
       phase = refl;
@@ -261,9 +257,9 @@ module _ (s : Snapshot) (i : ℕ) (whole : IsWholeAt (acting s i)) (limit : ℕ)
     follows = pass-follows;
     threads = threads-put s.tasks i t t' here thread;
     nears = passed-nears s.stores s.arrivals s.until s.time s.costs s.units i s.tasks s.queues whole.sound t t' tasks_now ticks changed all some
-        horizon_then wake_then quiet_then below_then ready;
+        horizon_then wake_then quiet_then below_then ready s.code pass_at_work;
     falls = passed-falls s.stores s.arrivals s.until s.time s.costs s.units i s.tasks s.queues whole.sound t t' tasks_now ticks changed all some
-        horizon_then wake_then quiet_then below_then ready;
+        horizon_then wake_then quiet_then below_then ready s.code pass_at_work;
   }
 
 -- no release comes before the present time
@@ -391,105 +387,73 @@ alone-then s s' s'' i limit told a b = record {
     near (One e) h = tt
     near (Two e f) h = tt
 
--- what a piece that is nothing to others does
-silent-done : (y : System) (p : piece.Piece) (away vs : Variables) (rest : List pieces.Piece) → is_silent p ≡ true
-    → (done y (piece_of p away) vs rest).act ≡ deeds.Silent
-silent-done y is.Idle away vs rest h = refl
-silent-done y (is.Store target value) away vs rest h = refl
-silent-done y (is.Leaving condition) away vs rest h =
-    by_test (holds (expression_of condition.now) vs) (deed deeds.Silent (drop 1 vs) (pieces.after_loop rest)) (deed deeds.Silent vs rest) refl refl
-  where
-    by_test : (b : Bool) (one other : deeds.PieceOutcome) → one.act ≡ deeds.Silent → other.act ≡ deeds.Silent
-        → (if b then one else other).act ≡ deeds.Silent
-    by_test true one other f g = f
-    by_test false one other f g = g
-silent-done y (is.Working ticks) away vs rest h = refl
-silent-done y (is.Testing arm arms other) away vs rest h = refl
-silent-done y (is.Turning r) away vs rest h = refl
-silent-done y (is.Turned r) away vs rest h = refl
-silent-done y (is.Returning c) away vs rest h = refl
-silent-done y (is.Calling object op actuals) away vs rest h = absurd (cc)
-silent-done y (is.Printing value) away vs rest h = absurd (cc)
-silent-done y (is.Closing e) away vs rest h = absurd (cc)
-silent-done y (is.Keeping r) away vs rest h = absurd (cc)
-silent-done y (is.Opening r) away vs rest h = absurd (cc)
-silent-done y (is.Requested r) away vs rest h = absurd (cc)
-silent-done y is.Finishing away vs rest h = absurd (cc)
-
-pub silent-outside : (y : System) (p : piece.Piece) → is_silent p ≡ true → StaysOutside y p
-silent-outside y is.Idle h = tt
-silent-outside y (is.Store target value) h = tt
-silent-outside y (is.Leaving condition) h = tt
-silent-outside y (is.Working ticks) h = tt
-silent-outside y (is.Testing arm arms other) h = tt
-silent-outside y (is.Turning r) h = tt
-silent-outside y (is.Turned r) h = tt
-silent-outside y (is.Returning c) h = tt
-silent-outside y (is.Calling object op actuals) h = absurd (cc)
-silent-outside y (is.Printing value) h = tt
-silent-outside y (is.Closing e) h = absurd (cc)
-silent-outside y (is.Keeping r) h = tt
-silent-outside y (is.Opening r) h = tt
-silent-outside y (is.Requested r) h = tt
-silent-outside y is.Finishing h = tt
-
-act-silent : (a : Act) → act_of a ≡ deeds.Silent → a ≡ acts.Silent
-act-silent acts.Silent h = refl
-act-silent (acts.Print value) h = absurd (cc)
-act-silent (acts.Ask task) h = absurd (cc)
-act-silent (acts.Keep task value) h = absurd (cc)
-act-silent (acts.Open task) h = absurd (cc)
-act-silent (acts.Ended task value) h = absurd (cc)
-act-silent acts.Finish h = absurd (cc)
-
-first-same : (p q : pieces.Piece) (ps qs : List pieces.Piece) → p ∷ ps ≡ q ∷ qs → p ≡ q
-first-same p q ps qs h = cc
-
--- so its act is silent
-pub acts-silent : (z : System) (costs : Costs) (t t' : Task) (p : piece.Piece) (act : Act) → t.progress.piece ≡ Some p → is_silent p ≡ true
-    → Acts z costs (task_of t) act (task_of t') → act ≡ acts.Silent
-acts-silent z costs t t' p act started_is silent a =
-    let frames = kept (frames_of t.progress.stack) in
-    let is : a.piece ≡ piece_of p frames.away =
-    first-same a.piece (piece_of p frames.away) a.rest (with_parts p frames.pieces) (sym a.first ∙ ap (λ o. started o frames) started_is) in
-    let does : done z a.piece (task_of t).vars a.rest ≡ deed (act_of act) a.vars a.pieces = a.does z (λ unit op. refl) in
-    act-silent act (sym (ap (λ (d : deeds.PieceOutcome). d.act) does) ∙ ap (λ q. (done z q (task_of t).vars a.rest).act) is
-    ∙ silent-done z p frames.away (task_of t).vars a.rest silent)
-
 -- the effect of a piece that is nothing to others
 module _ (s : Snapshot) (i : ℕ) (whole : IsWholeAt (acting s i)) (t t' : Task) (here : slice_get s.tasks i ≡ Some t) (due : t.left ≡ 0)
-    (p : piece.Piece) (started_is : t.progress.piece ≡ Some p) (silent : is_silent p ≡ true) (act : Act) (d : HasDone s.costs act t t') where
-  silent_done : HasDone s.costs acts.Silent t t'
-  silent_done = subst (λ (x : Act). HasDone s.costs x t t')
-      (acts-silent (system_of t.progress.stack.thread) s.costs t t' p act started_is silent d.acts) d
-
+    (d : HasDone s.code s.costs acts.Silent t t') where
   same_active : t'.active ≡ t.active
-  same_active = ap (λ u. u.active) silent_done.acts.after ∙ going-active s.costs silent_done.acts.vars silent_done.acts.pieces (task_of t)
+  same_active = ap (λ u. u.active) d.acts.after ∙ going-active s.costs d.acts.vars d.acts.pieces (task_of t)
 
   silent-step : Steps (acting s i) Nothing (record (acting s i) { tasks = set s.tasks i t' })
   silent-step =
-      let a = silent_done.acts in
-      going-step s i whole t t' here due acts.Silent silent_done (nests-going t t' s.costs a.vars a.pieces a.after silent_done.inside)
+      let a = d.acts in
+      going-step s i whole t t' here due acts.Silent d (nests-going t t' s.costs a.vars a.pieces a.after d.inside)
       a.after Nothing refl refl tt (omega arith)
 
-  pub silent-goes : (limit : ℕ) → IsAlone (acting s i) i limit
-      → GoesAlone (acting s i) (record (acting s i) { tasks = set s.tasks i t' }) i limit
-      × (steps_left (record (acting s i) { tasks = set s.tasks i t' }) < steps_left (acting s i))
+  pub silent-goes : (limit : ℕ) → IsAlone (acting s i) i limit → GoesAlone (acting s i) (record (acting s i) { tasks = set s.tasks i t' }) i limit
   silent-goes limit alone =
-      let step = silent-step in (
-        record {
-          acting = record { whole = step.whole refl; phase = refl; goes_on = refl };
-          alone = record {
-            later = alone.later;
-            horizon = alone.horizon;
-            wake = alone.wake;
-            arrival = alone.arrival;
-            first = λ less u at. still-below s.tasks i t t' s.queues.ready here same_active (alone.first less t here) u at;
-          };
-          follows = step.follows;
-          threads = threads-put s.tasks i t t' here d.thread;
-          nears = omega (arith, step.nears);
-          falls = let h = step.falls refl in omega (arith, h);
-        },
-        step.nears,
-      )
+      let step = silent-step in
+      record {
+        acting = record { whole = step.whole refl; phase = refl; goes_on = refl };
+        alone = record {
+          later = alone.later;
+          horizon = alone.horizon;
+          wake = alone.wake;
+          arrival = alone.arrival;
+          first = λ less u at. still-below s.tasks i t t' s.queues.ready here same_active (alone.first less t here) u at;
+        };
+        follows = step.follows;
+        threads = threads-put s.tasks i t t' here d.thread;
+        nears = omega (arith, step.nears);
+        falls = let h = step.falls refl in omega (arith, h);
+      }
+
+-- a processor at another time, with another task at this place
+abbrev pub gone : Snapshot → ℕ → ℕ → Task → Snapshot
+gone s i time t = record s { time = time; tasks = set s.tasks i t }
+
+set-same : (tasks : List Task) (i : ℕ) (t : Task) → slice_get tasks i ≡ Some t → set tasks i t ≡ tasks
+set-same [] i t here = refl
+set-same (u ∷ us) zero t here = ap (λ v. v ∷ us) (sym (same_Some u t here))
+set-same (u ∷ us) (suc i) t here = ap (λ vs. u ∷ vs) (set-same us i t here)
+
+gone-none : (s : Snapshot) (i : ℕ) (t : Task) → slice_get s.tasks i ≡ Some t → s ≡ gone s i s.time t
+gone-none s i t here = ap (λ ts. record s { tasks = ts }) (sym (set-same s.tasks i t here))
+
+gone-twice : (s : Snapshot) (i before time : ℕ) (u t : Task) → gone (gone s i before u) i time t ≡ gone s i time t
+gone-twice s i before time u t = ap (λ ts. record s { time = time; tasks = ts }) (set-twice s.tasks i u t)
+
+-- one turn of a task that goes on alone
+alone-one : (s : Snapshot) (i limit : ℕ) → IsActing s i → IsAlone s i limit → (t t' : Task) (time : ℕ) → slice_get s.tasks i ≡ Some t
+    → OneAlong s.code s.costs limit s.time t time t' → GoesAlone s (gone s i time t') i limit
+alone-one s i limit acts alone t t' time here (inl uses) =
+    subst (λ k. GoesAlone s (gone s i k t') i limit) (sym uses.after)
+    (in-acting s i acts (λ x. IsAlone x i limit → GoesAlone x (record x { time = s.time + t.left; tasks = set s.tasks i t' }) i limit)
+    (λ whole alone'. pass-goes s i whole limit alone' t t' t.left here refl uses.some (omega (arith, uses.fits, uses.after)) uses.task uses.thread
+    uses.ready uses.progress) alone)
+alone-one s i limit acts alone t t' time here (inr done) =
+    subst (λ k. GoesAlone s (gone s i k t') i limit) (sym done.0)
+    (in-acting s i acts (λ x. IsAlone x i limit → GoesAlone x (record x { tasks = set s.tasks i t' }) i limit)
+    (λ whole alone'. silent-goes s i whole t t' here done.1 done.2 limit alone') alone)
+
+-- and so all of them
+pub alone-along : (s : Snapshot) (i limit : ℕ) → IsActing s i → IsAlone s i limit → (t t' : Task) (time n : ℕ) → slice_get s.tasks i ≡ Some t
+    → SoMany s.code s.costs limit n s.time t time t' → GoesAlone s (gone s i time t') i limit
+alone-along s i limit acts alone t t' time zero here (now, same) =
+    let e : s ≡ gone s i time t' = gone-none s i t here ∙ ap (λ k. gone s i k t) (sym now) ∙ ap (gone s i time) (sym same) in
+    subst (λ x. GoesAlone s x i limit) e (alone-none s i limit acts alone)
+alone-along s i limit acts alone t t' time (suc n) here (before, u, some, one) =
+    let g = alone-along s i limit acts alone t u before n here some in
+    let there : slice_get (set s.tasks i u) i ≡ Some u = get-put s.tasks i u (get_within i s.tasks t here) in
+    let h = alone-one (gone s i before u) i limit g.acting g.alone u t' time there one in
+    subst (λ x. GoesAlone s x i limit) (gone-twice s i before time u t')
+    (alone-both s (gone s i before u) (gone (gone s i before u) i time t') i limit g h)

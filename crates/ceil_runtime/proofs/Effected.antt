@@ -32,19 +32,20 @@ use Rattle.law_dispatching.proofs.Shared.Places.{get-changed}
 use Rattle.task_runtime.specs.Doing.{act_of}
 use Rattle.ceil_runtime.specs.Processing.{AllTasks, HasNoEffect, IsKept, IsSound, order_of, state_by, system_by, with_task}
 use Rattle.task_runtime.specs.Readies.{is_ready, readiness_of}
-use Rattle.task_runtime.specs.Works.{Acts, IsNested, task_of}
+use Rattle.task_runtime.specs.Works.{Acts, IsNested}
+use Rattle.linked_task.specs.Works.{task_of}
 use Rattle.task_runtime.specs.Written.{system_of}
 use Rattle.task_runtime.specs.declared.effects.Act.{Act}
 use Rattle.task_runtime.specs.declared.effects.Act.TheVariants.{Finish}
-use Rattle.task_runtime.specs.declared.task.Task.{Task}
-use Rattle.task_runtime.specs.declared.task.Readiness as readiness
-use Rattle.task_runtime.specs.declared.task.Readiness.TheVariants as readies
+use Rattle.linked_task.specs.declared.task.Task.{Task}
+use Rattle.task_runtime.specs.declared.readiness.Readiness as readiness
+use Rattle.task_runtime.specs.declared.readiness.Readiness.TheVariants as readies
 use Rattle.ceil_runtime.specs.declared.processor.Phase.TheVariants.{Effects, Delays}
 use Rattle.ceil_runtime.proofs.Processed.{runs-alike, changed-alike, Changed, changed-all, changed-length, changed-tasks, get-put, get-set_same}
 use Rattle.ceil_runtime.proofs.Processed.{get_within, step-run}
 use Rattle.ceil_runtime.proofs.Released.{changed_at, asleep-apart, going-active, going-next, going-readiness, going-used, ready-is, serve-none}
 use Rattle.ceil_runtime.proofs.Released.{serve-run, tail-ranks, waiting-released}
-use Rattle.task_runtime.proofs.Shared.AtWork.{rests-idle}
+use Rattle.linked_task.proofs.Shared.AtWork.{rests-idle}
 
 clash : true ≡ false → ⊥
 clash k = cc

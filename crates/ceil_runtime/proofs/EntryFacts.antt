@@ -4,10 +4,11 @@ use Rattle.std.proofs.Common.{sym, ◌∙◌, ap, subst, arith}
 use Rattle.std.proofs.lemmas.List.{length-map, take_all}
 use Rattle.std.proofs.lemmas.Option.{same_Some, slice_get_read, slice_get_within}
 use Rattle.seq_tree.specs.Names.{Name}
-use Rattle.seq_tree.specs.Variables.{Variables, written}
-use Rattle.seq_tree.specs.declared.tree.Datum.{Datum}
+use Rattle.seq_tree.specs.Variables.{Variables}
 use Rattle.ada_tree.specs.Trees.{unit_of}
-use Rattle.task_runtime.specs.Fitting.{IsOfObject, entry_names, names_of}
+use Rattle.task_runtime.specs.Fitting.{names_of}
+use Rattle.linker.specs.Programs.{datum_names}
+use Rattle.machine.specs.Systems.{ProtectedUnit}
 use Rattle.task_runtime.specs.Libraries.{objects_from}
 use Rattle.ceil_runtime.specs.Acted.{IsDoing}
 use Rattle.ceil_runtime.specs.Objects.{AreObjectsOf, first_object, lasting, shown}
@@ -18,10 +19,12 @@ use Rattle.ceil_runtime.specs.Stepping.{HasObject, HasOp}
 use Rattle.task_runtime.specs.Written.{system_of}
 use Rattle.ceil_runtime.specs.declared.object.Object.{Object}
 use Rattle.ceil_runtime.specs.declared.processor.Machine.{Machine}
-use Rattle.task_runtime.specs.declared.effects.Deed.{Deed}
-use Rattle.task_runtime.specs.declared.piece.Entry.{Entry}
-use Rattle.task_runtime.specs.declared.piece.Piece.{Piece}
-use Rattle.task_runtime.specs.declared.task.Task.{Task}
+use Rattle.linked_task.specs.declared.piece.Deed.{Deed}
+use Rattle.linked_task.specs.declared.piece.Entry.{Entry}
+use Rattle.linked_task.specs.declared.piece.Piece.{Piece}
+use Rattle.linked_task.specs.declared.task.Task.{Task}
+use Rattle.linked_task.specs.declared.piece.Deed.TheVariants.{Enter, Leave}
+use Rattle.linked_task.proofs.Shared.AtWork.{IsThere, entry-there, exit-there}
 use Rattle.task_runtime.specs.declared.values.Var.{Var}
 use Rattle.ada_tree.specs.declared.program.Unit as units
 use Rattle.ceil_runtime.proofs.Phases.{doing-here}
@@ -34,7 +37,7 @@ pub record IsFound (us : List units.Unit) (os : List Object) (t : Task) (e : Ent
   pub is : IsAt os e.object entered.entered
 
 pub found-object : (us : List units.Unit) (tasks : List Task) (os : List Object) → AreAlike us tasks → AreObjectsOf us os → (i : ℕ) (t : Task)
-    → slice_get tasks i ≡ Some t → (e : Entry) → IsOfObject (system_of t.progress.stack.thread) e → IsFound us os t e
+    → slice_get tasks i ≡ Some t → (e : Entry) → IsThere (system_of t.progress.stack.thread) e.object e.place → IsFound us os t e
 found-object us tasks os alike known i t here e of =
     let en = entered-by (system_of t.progress.stack.thread) e of in
     let at : slice_get (objects_from 0 (map unit_of us)) e.object ≡ Some en.entered
@@ -80,29 +83,24 @@ module _ (m : Machine) (i : ℕ) (t : Task) (e : Entry) (o : Object) (f : IsMet 
   pub place-few : e.place < 2 ^ 32
   place-few = let ops = ap (λ x. x.ops) found-shows in omega (arith, f.found.entered.is_op, ops, o.few)
 
-  -- what is written of it
-  pub same-written : written o.written.now ≡ written e.«data».now
-  same-written = ap (λ x. written x.vars) found-shows ∙ f.found.entered.vars
+  -- what is written of it, as calls find it
+  module _ (g : ProtectedUnit) (at : slice_get (system_of t.progress.stack.thread).objects e.object ≡ Some g) where
+    same_unit : f.found.entered.entered ≡ g
+    same_unit = same_Some f.found.entered.entered g (sym f.found.entered.at ∙ at)
 
-  pub same-names : map (λ d. d.name) o.written.now ≡ entry_names e
-  same-names = sym (of-written o.written.now) ∙ ap names_of same-written ∙ of-written e.«data».now
-    where
-      of-written : (ds : List Datum) → names_of (written ds) ≡ map (λ d. d.name) ds
-      of-written [] = refl
-      of-written (d ∷ ds) = ap (λ ns. d.name ∷ ns) (of-written ds)
+    pub same-names : map (λ d. d.name) o.written.now ≡ datum_names g.vars
+    same-names = ap (λ x. map (λ d. d.name) x.vars) found-shows ∙ ap (λ h. datum_names h.vars) same_unit
 
-  pub same-count : length o.written.now ≡ length e.«data».now
-  same-count =
-      let names = ap length same-names in
-      omega (arith, names, length-map o.written.now (λ d. d.name), length-map e.«data».now (λ d. d.name))
+    pub same-count : length o.written.now ≡ length g.vars
+    same-count = ap (λ x. length x.vars) found-shows ∙ ap (λ h. length h.vars) same_unit
 
 -- the object that a task of a machine enters or leaves
 module _ (m : Machine) (i : ℕ) (p : Piece) (d : Deed) (w : (t : Task) × IsDoing (snapshot_of m) i p d t) (e : Entry)
-    (of : IsOfObject (system_of w.0.progress.stack.thread) e) where
+    (of : IsThere (system_of w.0.progress.stack.thread) e.object e.place) where
   met_found : (t : Task) → slice_get m.tasks.items i ≡ Some t → IsFound m.units.now m.objects.items t e
   met_found t here =
       found-object m.units.now m.tasks.items m.objects.items w.1.acting.whole.sound.calls m.known i t here e
-      (subst (λ (u : Task). IsOfObject (system_of u.progress.stack.thread) e) (same_Some w.0 t (sym w.1.here ∙ here)) of)
+      (subst (λ (u : Task). IsThere (system_of u.progress.stack.thread) e.object e.place) (same_Some w.0 t (sym w.1.here ∙ here)) of)
 
   pub met-within : e.object < length m.objects.items
   met-within = let f = met_found w.0 w.1.here in slice_get_within m.objects.items e.object f.is.object f.is.here
@@ -115,6 +113,15 @@ module _ (m : Machine) (i : ℕ) (p : Piece) (d : Deed) (w : (t : Task) × IsDoi
         there = slice_get_read m.objects.items (length m.objects.items) e.object o refl met-within read_object;
         found = met_found t here;
       }
+
+-- the object of an entry and of an exit is there, with the operation
+pub enters-there : (m : Machine) (i : ℕ) (p : Piece) (e : Entry) (t : Task) → IsDoing (snapshot_of m) i p (Enter e) t
+    → IsThere (system_of t.progress.stack.thread) e.object e.place
+enters-there m i p e t h = entry-there m.code t (h.acting.whole.at_work i t h.here) p h.piece e.object e.place h.deed
+
+pub leaves-there : (m : Machine) (i : ℕ) (p : Piece) (e : Entry) (t : Task) → IsDoing (snapshot_of m) i p (Leave e) t
+    → IsThere (system_of t.progress.stack.thread) e.object e.place
+leaves-there m i p e t h = exit-there m.code t (h.acting.whole.at_work i t h.here) (h.piece ∙ ap Some h.deed.0) e.object e.place h.deed.1
 
 -- variables are as many as their names
 pub length-vars : (rest : Variables) (vs : List Var) → length (fold with_var rest vs) ≡ length vs + length rest

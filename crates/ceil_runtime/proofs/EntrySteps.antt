@@ -20,26 +20,27 @@ use Rattle.machine.specs.Deeds.{PieceOutcome, deed, done}
 use Rattle.machine.specs.Releases.{Next, after, going, is_waiting, released, serve}
 use Rattle.machine.specs.Effects.{acted, ceiling_of, entry, exit, inside_now, object_unit, outside_now, section_unit, task_unit}
 use Rattle.law_dispatching.proofs.Shared.Acts.{not-served}
-use Rattle.task_runtime.specs.Framed.{frames_of}
-use Rattle.task_runtime.specs.Doing.{IsActOf}
+use Rattle.linked_task.specs.Works.{IsActOf}
 use Rattle.task_runtime.specs.Effort.{sections_among}
 use Rattle.task_runtime.specs.Libraries.{objects_from}
 use Rattle.ceil_runtime.specs.Acted.{IsDoing}
 use Rattle.ceil_runtime.specs.Objects.{first_object, lasting, shown, store_of}
 use Rattle.ceil_runtime.specs.Processing.{IsSound}
-use Rattle.task_runtime.specs.Progresses.{behind, kept, piece_of, put_away, started, with_parts}
 use Rattle.task_runtime.specs.Readies.{readiness_of}
 use Rattle.ceil_runtime.specs.Snapshots.{IsWholeAt, Snapshot, system_at}
 use Rattle.ceil_runtime.specs.Stepping.{HasObject, HasOp, HasUnit, Steps}
-use Rattle.task_runtime.specs.Works.{Acts, ActsAs, EffortFalls, Enters, Leaves, task_of}
+use Rattle.task_runtime.specs.Works.{Acts, EffortFalls, Enters, Leaves}
+use Rattle.linked_task.specs.Works.{ActsAs, task_of}
 use Rattle.task_runtime.specs.Written.{system_of}
 use Rattle.task_runtime.specs.declared.effects.Act.TheVariants as acts
-use Rattle.task_runtime.specs.declared.effects.Deed.{Deed}
+use Rattle.linked_task.specs.declared.piece.Deed.{Deed}
 use Rattle.ceil_runtime.specs.declared.object.Object as objects
-use Rattle.task_runtime.specs.declared.piece.Piece.{Piece}
-use Rattle.task_runtime.specs.declared.task.Task.{Task}
-use Rattle.task_runtime.specs.declared.task.Readiness.{Readiness}
-use Rattle.task_runtime.specs.declared.task.Readiness.TheVariants as readies
+use Rattle.linked_task.specs.declared.piece.Piece.{Piece}
+use Rattle.linked_task.specs.declared.task.Task.{Task}
+use Rattle.linked_task.specs.Sounds.{IsAtWork}
+use Rattle.linked_task.proofs.Shared.FirstPieces.{HasFirst, first-piece}
+use Rattle.task_runtime.specs.declared.readiness.Readiness.{Readiness}
+use Rattle.task_runtime.specs.declared.readiness.Readiness.TheVariants as readies
 use Rattle.ceil_runtime.specs.declared.processor.Phase.TheVariants.{Effects}
 use Rattle.ceil_runtime.specs.declared.processor.Told.{Told}
 use Rattle.ceil_runtime.specs.declared.processor.Told.TheVariants.{Nothing, One, Two}
@@ -51,8 +52,9 @@ use Rattle.ceil_runtime.proofs.Processed.{Changed, changed-system, changed-tasks
 use Rattle.ceil_runtime.proofs.Reached.{asked-unit, unit-before}
 use Rattle.ceil_runtime.proofs.Sectioned.{left-sound}
 use Rattle.ceil_runtime.proofs.Stepped.{acted_to, effect_state}
-use Rattle.task_runtime.proofs.Shared.AtWork.{inside-falls, inside-going, inside-works, nests-inside, nests-outside, outside-falls, outside-going}
-use Rattle.task_runtime.proofs.Shared.AtWork.{outside-works}
+use Rattle.task_runtime.proofs.Shared.AtWork.{inside-going, outside-going}
+use Rattle.linked_task.proofs.Shared.AtWork.{inside-falls, inside-works, nests-inside, nests-outside, outside-falls}
+use Rattle.linked_task.proofs.Shared.AtWork.{outside-works}
 
 -- an entry that stands behind others leaves their facts
 each-behind : (P : Entry → Type 0) (before : Entry → Bool) (e : Entry) (es : List Entry) → Each P (put_behind before e es) → Each P es
@@ -94,29 +96,25 @@ waits-open u h = by_readiness u.readiness h
 module _ (s : Snapshot) (i : ℕ) (whole : IsWholeAt (acting s i)) (t : Task) (here : slice_get s.tasks i ≡ Some t) (due : t.left ≡ 0) where
   -- the act of a piece, before its effect
   reached-at : (q : Piece) (d : Deed) → t.progress.piece ≡ Some q → ActsAs (system_of t.progress.stack.thread) (task_of t) d
-      → IsActOf d (done (system_at s) (piece_of q (put_away (frames_of t.progress.stack))) (task_of t).vars
-      (with_parts q (behind (frames_of t.progress.stack)))).act
-  reached-at q d has reaches =
-      let fs = (frames_of t.progress.stack) in
-      reaches (piece_of q (put_away fs)) (with_parts q (behind fs)) (ap (λ o. started o (kept fs)) has) (system_at s)
+      → (f : HasFirst (task_of t)) → IsActOf d (done (system_at s) f.piece (task_of t).vars f.rest).act
+  reached-at q d has reaches f =
+      reaches f.piece f.rest f.first (system_at s)
       (runs-alike s.until s.costs s.units s.tasks whole.sound.calls i t here)
 
   -- the stop before a section
   stop-before : (q : Piece) → t.progress.piece ≡ Some q → (section : Resource) (unit ceiling : ℕ) (told' : List Event) (act : deeds.Act)
-      → (done (system_at s) (piece_of q (put_away (frames_of t.progress.stack))) (task_of t).vars
-      (with_parts q (behind (frames_of t.progress.stack)))).act ≡ act
+      → (f : HasFirst (task_of t)) → (done (system_at s) f.piece (task_of t).vars f.rest).act ≡ act
       → ((vars : Variables) (ps : List pieces.Piece) → acted (system_at s) i (task_of t) act vars ps (effect_state s i)
       ≡ entry (system_at s) i (task_of t) section told' vars ps (effect_state s i))
       → section_unit (system_at s) section ≡ unit → ceiling_of (system_at s) section ≡ ceiling → nat_lt ceiling t.active ≡ true
       → HasObject s.tasks unit ⊎ HasUnit s.tasks unit
       → (told : Told) → told ≡ One (event.Stop s.time t.progress.stack.thread.unit unit t.active ceiling)
       → Steps (acting s i) told (record (acting s i) { stopped = true })
-  stop-before q has section unit ceiling told' act is enters unit_is ceiling_is above of told says =
-      let fs = (frames_of t.progress.stack) in
-      let outcome : PieceOutcome = done (system_at s) (piece_of q (put_away fs)) (task_of t).vars (with_parts q (behind fs)) in
+  stop-before q has section unit ceiling told' act f is enters unit_is ceiling_is above of told says =
+      let outcome : PieceOutcome = done (system_at s) f.piece (task_of t).vars f.rest in
       let does : outcome ≡ deed act outcome.vars outcome.pieces = ap (λ a. deed a outcome.vars outcome.pieces) is in
-      let step = stop-step s i whole t here due (piece_of q (put_away fs)) (with_parts q (behind fs)) outcome.pieces outcome.vars act
-      (ap (λ o. started o (kept fs)) has) does section told' (enters outcome.vars outcome.pieces) (ap (λ n. nat_lt n t.active) ceiling_is ∙ above) (
+      let step = stop-step s i whole t here due f.piece f.rest outcome.pieces outcome.vars act
+      f.first does section told' (enters outcome.vars outcome.pieces) (ap (λ n. nat_lt n t.active) ceiling_is ∙ above) (
         record { place = i; task = t; here = here; is_unit = refl },
         subst (λ n. HasObject s.tasks n ⊎ HasUnit s.tasks n) (sym unit_is) of,
       ) in
@@ -125,7 +123,11 @@ module _ (s : Snapshot) (i : ℕ) (whole : IsWholeAt (acting s i)) (t : Task) (h
       subst (λ e. Steps (acting s i) e (record (acting s i) { stopped = true })) (ap One event_is ∙ sym says) step
 
   module _ (t' t'' : Task) (thread : t'.progress.stack.thread ≡ t.progress.stack.thread) (progress : t''.progress
-      ≡ t'.progress) (works : t'.works ≤ t.works + min t'.left 1) (falls : EffortFalls t.progress.stack.thread (task_of t) (task_of t')) where
+      ≡ t'.progress) (works : t'.works ≤ t.works + min t'.left 1) (falls : EffortFalls t.progress.stack.thread (task_of t) (task_of t'))
+      (at' : IsAtWork s.code t'.progress) where
+    at'' : IsAtWork s.code t''.progress
+    at'' = subst (IsAtWork s.code) (sym progress) at'
+
     same_thread : t''.progress.stack.thread ≡ t.progress.stack.thread
     same_thread = ap (λ p. p.stack.thread) progress ∙ thread
 
@@ -162,7 +164,7 @@ module _ (s : Snapshot) (i : ℕ) (whole : IsWholeAt (acting s i)) (t : Task) (h
           (e.does (system_at s) (runs-alike s.until s.costs s.units s.tasks whole.sound.calls i t here))
           same_thread (inside-works t t' t'' (Object k) o.ceiling inside works)
           (inside-falls t t' t'' (Object k) o.ceiling inside t.progress.stack.thread falls)
-          (nests-inside t t' t'' s.costs (e.vars ++ store_of o) e.pieces e.after more (Object k) o.ceiling inside)
+          (nests-inside t t' t'' s.costs (e.vars ++ store_of o) e.pieces e.after more (Object k) o.ceiling inside) at''
           (Object k) (One (event.Enter s.time t''.progress.stack.thread.unit o.unit op values))
           (ap (λ n. entry (system_at s) i (task_of t) (Object k) (n ∷ []) e.vars e.pieces (effect_state s i)) unit_is)
           (ap (λ n. nat_lt n t.active) ceiling_is ∙ low)
@@ -187,7 +189,7 @@ module _ (s : Snapshot) (i : ℕ) (whole : IsWholeAt (acting s i)) (t : Task) (h
           exit-step s i whole t t'' here due e.piece e.rest e.pieces e.vars (deeds.Leave k op values (store_of o')) e.first
           (e.does (system_at s) (runs-alike s.until s.costs s.units s.tasks whole.sound.calls i t here))
           same_thread (outside-works t t' t'' outside works) (outside-falls t t' t'' outside t.progress.stack.thread falls)
-          (nests-outside t t' t'' s.costs e.vars e.pieces e.after fewer outside)
+          (nests-outside t t' t'' s.costs e.vars e.pieces e.after fewer outside) at''
           (One (event.Leave s.time t''.progress.stack.thread.unit o.unit op values)) stores'
           (ap (λ n. let next : Next = (exit (system_at s) i e.vars e.pieces (record (effect_state s i) { stores = kept' }), n ∷ []) in next) unit_is
           ∙ ap (λ (σ : List Variables). let next : Next = (
@@ -210,7 +212,7 @@ module _ (s : Snapshot) (i : ℕ) (whole : IsWholeAt (acting s i)) (t : Task) (h
           (a.does (system_at s) (runs-alike s.until s.costs s.units s.tasks whole.sound.calls i t here))
           same_thread (inside-works t t' t'' (Control k) ceiling inside works)
           (inside-falls t t' t'' (Control k) ceiling inside t.progress.stack.thread falls)
-          (nests-inside t t' t'' s.costs a.vars a.pieces a.after more (Control k) ceiling inside)
+          (nests-inside t t' t'' s.costs a.vars a.pieces a.after more (Control k) ceiling inside) at''
           (Control k) Nothing refl (ap (λ n. nat_lt n t.active) ceiling_is ∙ low)
           (inside ∙ ap (inside_now (Control k) ceiling) a.after ∙ inside-going (Control k) ceiling s.costs a.vars a.pieces (task_of t)
           ∙ ap (λ n. going s.costs a.vars a.pieces (inside_now (Control k) n (task_of t))) (sym ceiling_is))
@@ -241,7 +243,7 @@ module _ (s : Snapshot) (i : ℕ) (whole : IsWholeAt (acting s i)) (t : Task) (h
           exit-step s i whole t t'' here due a.piece a.rest a.pieces a.vars (deeds.Ended k value) a.first
           (a.does (system_at s) (runs-alike s.until s.costs s.units s.tasks whole.sound.calls i t here))
           same_thread (outside-works t t' t'' outside works) (outside-falls t t' t'' outside t.progress.stack.thread falls)
-          (nests-outside t t' t'' s.costs a.vars a.pieces a.after fewer outside)
+          (nests-outside t t' t'' s.costs a.vars a.pieces a.after fewer outside) at''
           (One (event.Request s.time t'.progress.stack.thread.unit u.progress.stack.thread.unit value)) s.stores
           (ap (after (event.Request s.time t.progress.stack.thread.unit (task_unit (system_at s) k) value ∷ []))
           (not-served (system_at s) k (task_of u) left_state there' not) ∙ ap (λ n. let next : Next = (left_state, n ∷ []) in next) unit_is)
@@ -276,17 +278,18 @@ module _ (s : Snapshot) (i : ℕ) (whole : IsWholeAt (acting s i)) (t : Task) (h
         (nests-outside t t' t'' s.costs a.vars a.pieces a.after fewer outside)
 
     -- and with its release
-    pub answered-step : (falls : EffortFalls t.progress.stack.thread (task_of t) (task_of t')) (k : ℕ) (value : Option ℕ)
+    pub answered-step : IsAtWork s.code t'.progress → (falls : EffortFalls t.progress.stack.thread (task_of t) (task_of t')) (k : ℕ)
+        (value : Option ℕ)
         (a : Acts (system_of t.progress.stack.thread) s.costs (task_of t) (acts.Ended k value) (task_of t'))
         → sections_among (task_of t).pieces ≡ suc (sections_among (task_of t').pieces) → task_of t'' ≡ outside_now (task_of t')
         → (u u' : Task) → slice_get (set s.tasks i t'') k ≡ Some u → task_of u' ≡ released s.costs (task_of u)
         → u'.progress.stack.thread ≡ u.progress.stack.thread → u.readiness ≡ readies.Waiting → u.gate.«open» ≡ true
-        → u'.works ≤ u.works + min u'.left 1 → (q' : Queues)
+        → u'.works ≤ u.works + min u'.left 1 → IsAtWork s.code u'.progress → (q' : Queues)
         → q' ≡ record s.queues { ready = at_tail (k, (task_of u').active) s.queues.ready }
         → Steps (acting s i) (Two (event.Request s.time t'.progress.stack.thread.unit u.progress.stack.thread.unit value)
         (event.Release s.time u'.progress.stack.thread.unit u.gate.value))
         (record (acting s i) { tasks = set (set s.tasks i t'') k u'; queues = q' })
-    answered-step falls k value a fewer outside u u' there task thread' waits is_open works' q' links =
+    answered-step at' falls k value a fewer outside u u' there task thread' waits is_open works' now' q' links =
         let same = ap (λ p. p.stack.thread) progress ∙ thread in
         let left_task = outside ∙ ap outside_now a.after ∙ outside-going s.costs a.vars a.pieces (task_of t) in
         let tasks' : List Task = set s.tasks i t'' in
@@ -309,28 +312,29 @@ module _ (s : Snapshot) (i : ℕ) (whole : IsWholeAt (acting s i)) (t : Task) (h
         (answer-step s i whole t t'' here due a.piece a.rest a.pieces a.vars (deeds.Ended k value) a.first
         (a.does (system_at s) (runs-alike s.until s.costs s.units s.tasks whole.sound.calls i t here))
         same (outside-works t t' t'' outside works) (outside-falls t t' t'' outside t.progress.stack.thread falls)
-        (nests-outside t t' t'' s.costs a.vars a.pieces a.after fewer outside) tasks' refl
+        (nests-outside t t' t'' s.costs a.vars a.pieces a.after fewer outside) (subst (IsAtWork s.code) (sym progress) at') tasks' refl
         left_task k asks (ap (λ e. after (e ∷ []) (serve (system_at s) k (exit (system_at s) i a.vars a.pieces (effect_state s i)))) unit_is) u u'
-        tasks'' d waits is_open works' q' links ((own, other), other) tt)
+        tasks'' d waits is_open works' now' q' links ((own, other), other) tt)
 
 -- a task that does a piece
 module _ (s : Snapshot) (i : ℕ) (q : Piece) (d : Deed) (t : Task) (h : IsDoing s i q d t) where
   -- the act of its piece, before its effect
-  pub doing-act : IsActOf d (done (system_at s) (piece_of q (put_away (frames_of t.progress.stack))) (task_of t).vars
-      (with_parts q (behind (frames_of t.progress.stack)))).act
-  doing-act = reached-at s i (whole-acting s i h.acting) t h.here h.due q d h.piece h.reaches
+  pub doing-first : HasFirst (task_of t)
+  doing-first = first-piece s.code t (h.acting.whole.at_work i t h.here) q h.piece
+
+  pub doing-act : IsActOf d (done (system_at s) doing-first.piece (task_of t).vars doing-first.rest).act
+  doing-act = reached-at s i (whole-acting s i h.acting) t h.here h.due q d h.piece h.reaches doing-first
 
   -- the run stops before a section
   pub stop-reached : (section : Resource) (unit ceiling : ℕ) (told' : List Event) (act : deeds.Act)
-      → (done (system_at s) (piece_of q (put_away (frames_of t.progress.stack))) (task_of t).vars
-      (with_parts q (behind (frames_of t.progress.stack)))).act ≡ act
+      → (f : HasFirst (task_of t)) → (done (system_at s) f.piece (task_of t).vars f.rest).act ≡ act
       → ((vars : Variables) (ps : List pieces.Piece) → acted (system_at s) i (task_of t) act vars ps (effect_state s i)
       ≡ entry (system_at s) i (task_of t) section told' vars ps (effect_state s i))
       → section_unit (system_at s) section ≡ unit → ceiling_of (system_at s) section ≡ ceiling → nat_lt ceiling t.active ≡ true
       → HasObject s.tasks unit ⊎ HasUnit s.tasks unit
       → (told : Told) → told ≡ One (event.Stop s.time t.progress.stack.thread.unit unit t.active ceiling)
       → (n : Snapshot) → n ≡ record s { stopped = true } → Steps s told n
-  stop-reached section unit ceiling told' act is enters unit_is ceiling_is above of told says n stops =
+  stop-reached section unit ceiling told' act f is enters unit_is ceiling_is above of told says n stops =
       subst (λ x. Steps s told x) (sym stops)
       (in-acting s i h.acting (λ x. Steps x told (record x { stopped = true }))
-      (λ whole. stop-before s i whole t h.here h.due q h.piece section unit ceiling told' act is enters unit_is ceiling_is above of told says))
+      (λ whole. stop-before s i whole t h.here h.due q h.piece section unit ceiling told' act f is enters unit_is ceiling_is above of told says))

@@ -7,18 +7,19 @@ use Rattle.machine.specs.Pieces.{Finishing, Idle, Requested}
 use Rattle.ceil_runtime.specs.Acted.{HasActed, with_tasks}
 use Rattle.task_runtime.specs.Effort.{effort, sections_among}
 use Rattle.ceil_runtime.specs.Snapshots.{IsWholeAt, Snapshot}
-use Rattle.task_runtime.specs.Works.{task_of}
+use Rattle.linked_task.specs.Works.{task_of}
 use Rattle.task_runtime.specs.Written.{reserve, system_of}
 use Rattle.task_runtime.specs.declared.effects.Act.TheVariants.{Silent, Print, Keep, Finish}
 use Rattle.ceil_runtime.specs.declared.processor.Phase.TheVariants.{Effects}
-use Rattle.task_runtime.specs.declared.task.Task.{Task}
+use Rattle.linked_task.specs.declared.task.Task.{Task}
+use Rattle.linked_task.specs.Sounds.{IsAtWork}
 
 -- a task whose one piece does nothing has no piece then
 has-acted : (s : Snapshot) (ts : List Task) (t t' : Task) → IsWholeAt s → s.phase ≡ Effects (Some 0) → s.stopped ≡ false
     → slice_get s.tasks 0 ≡ Some t → t.left ≡ 0 → (task_of t).pieces ≡ Idle ∷ [] → task_of t' ≡ record (task_of t) { pieces = []; left = 0 }
-    → t'.progress.stack.thread ≡ t.progress.stack.thread → ts ≡ set s.tasks 0 t'
+    → t'.progress.stack.thread ≡ t.progress.stack.thread → IsAtWork s.code t'.progress → ts ≡ set s.tasks 0 t'
     → HasActed s.tasks (with_tasks ts s) 0 Silent t t'
-has-acted s ts t t' whole phase goes_on here due one after thread put =
+has-acted s ts t t' whole phase goes_on here due one after thread at' put =
     let none : (task_of t').pieces ≡ [] = ap (λ u. u.pieces) after in
     let works : t'.works ≡ t.works = ap (λ u. u.works) after in
     let some : (most : ℕ) → reserve t.progress.stack.thread ≤ most → 0 < effort most (task_of t).pieces =
@@ -29,6 +30,7 @@ has-acted s ts t t' whole phase goes_on here due one after thread put =
       due = due;
       done = record {
         acts = record { piece = Idle; rest = []; vars = (task_of t).vars; pieces = []; first = one; does = λ y alike. refl; after = after };
+        at_work = at';
         thread = thread;
         works = omega (arith, works);
         falls = λ most h. (some most h, λ e. subst (λ ps. effort most ps < effort most (task_of t).pieces) (sym none) (some most h));

@@ -10,7 +10,7 @@ use Rattle.ceil_runtime.specs.Stepping.{HasOp, HasStopped}
 use Rattle.task_runtime.specs.Written.{system_of}
 use Rattle.ceil_runtime.specs.declared.object.Object as objects
 use Rattle.ceil_runtime.specs.declared.processor.Machine.{Machine}
-use Rattle.task_runtime.specs.declared.task.Task.{Task}
+use Rattle.linked_task.specs.declared.task.Task.{Task}
 use Rattle.task_runtime.proofs.Shared.ExampleSystem.{object, three}
 
 -- what lasts of an object is all but its data

@@ -1,28 +1,24 @@
 -- A protected object that a task of a machine enters has all its data, as they are written.
-use Rattle.std.specs.Prelude.{◌≡◌, ◌≤◌, ℕ, false, get_or, length, [], map, nat_lt, option_map, slice_get, Some, refl}
+use Rattle.std.specs.Prelude.{◌≡◌, ◌≤◌, ℕ, false, get_or, map, nat_lt, option_map, refl}
 use Rattle.std.proofs.Common.{sym, ◌∙◌, ap, arith}
-use Rattle.std.proofs.lemmas.List.{length-map}
 use Rattle.std.proofs.lemmas.Option.{same_Some, slice_get-map}
 use Rattle.machine.specs.Effects.{ceiling_of}
 use Rattle.machine.specs.States.{Object as InObject}
 use Rattle.law_homes.specs.Homes.{IsHome, IsOpenTo}
 use Rattle.task_runtime.specs.Fitting.{names_of}
-use Rattle.task_runtime.specs.Framed.{frames_of}
-use Rattle.task_runtime.specs.Progresses.{behind, kept, piece_of, put_away, started, with_parts}
-use Rattle.task_runtime.specs.Works.{task_of}
-use Rattle.task_runtime.specs.declared.effects.Deed.TheVariants.{Enter}
-use Rattle.task_runtime.specs.declared.piece.Entry.{Entry}
-use Rattle.task_runtime.specs.declared.piece.Piece.{Piece}
-use Rattle.task_runtime.specs.declared.task.Task.{Task}
-use Rattle.task_runtime.proofs.Shared.AtWork.{of-object}
+use Rattle.linked_task.specs.Works.{task_of}
+use Rattle.linked_task.specs.declared.piece.Deed.TheVariants.{Enter}
+use Rattle.linked_task.specs.declared.piece.Entry.{Entry}
+use Rattle.linked_task.specs.declared.piece.Piece.{Piece}
+use Rattle.linked_task.specs.declared.task.Task.{Task}
 use Rattle.ceil_runtime.specs.Acted.{IsDoing}
 use Rattle.ceil_runtime.specs.Objects.{store_of}
 use Rattle.ceil_runtime.specs.Shown.{snapshot_of}
 use Rattle.ceil_runtime.specs.Snapshots.{state_at, system_at}
 use Rattle.ceil_runtime.specs.declared.object.Object.{Object}
 use Rattle.ceil_runtime.specs.declared.processor.Machine.{Machine}
-use Rattle.ceil_runtime.proofs.EntryFacts.{IsMet, found-shows, length-vars, met}
-use Rattle.ceil_runtime.proofs.EntrySteps.{doing-act}
+use Rattle.ceil_runtime.proofs.EntryFacts.{IsMet, enters-there, found-shows, met}
+use Rattle.ceil_runtime.proofs.EntrySteps.{doing-act, doing-first}
 use Rattle.ceil_runtime.proofs.ObjectsKept.{entered-ceiling}
 use Rattle.ceil_runtime.proofs.Phases.{acting, doing-here, whole-acting}
 use Rattle.ceil_runtime.proofs.Reaching.{reached-home}
@@ -34,7 +30,7 @@ module _ (m : Machine) (i : ℕ) (p : Piece) (e : Entry) (w : (t : Task) × IsDo
   doing = doing-here (snapshot_of m) i p (Enter e) w t read
 
   found : IsMet m i t e o
-  found = met m i p (Enter e) w e (of-object _ e w.1.deed.1) t read o read_object
+  found = met m i p (Enter e) w e (enters-there m i p e w.0 w.1) t read o read_object
 
   below : t.active ≤ ceiling_of (system_at (snapshot_of m)) (InObject e.object)
   below =
@@ -46,11 +42,11 @@ module _ (m : Machine) (i : ℕ) (p : Piece) (e : Entry) (w : (t : Task) × IsDo
   opens : IsOpenTo (system_at (snapshot_of m)) (state_at (acting (snapshot_of m) i)) e.object
   opens =
       let s = snapshot_of m in
-      let fs = frames_of t.progress.stack in
+      let f = doing-first s i p (Enter e) t doing in
       let act = doing-act s i p (Enter e) t doing in
       (reached-home (system_at s) (state_at (acting s i)) (whole-acting s i doing.acting).reached).1 i e.object e.place act.0 (task_of t)
-      (piece_of p (put_away fs)) (with_parts p (behind fs)) refl refl
-      (slice_get-map task_of m.tasks.items i ∙ ap (option_map task_of) doing.here) (ap (λ x. started x (kept fs)) doing.piece) act.1 below
+      f.piece f.rest refl refl
+      (slice_get-map task_of m.tasks.items i ∙ ap (option_map task_of) doing.here) f.first act.1 below
 
   pub entered-names : names_of (store_of o) ≡ map (λ d. d.name) o.written.now
   entered-names =
@@ -60,14 +56,3 @@ module _ (m : Machine) (i : ℕ) (p : Piece) (e : Entry) (w : (t : Task) × IsDo
       let object = same_Some found.found.entered.entered opens.1 (sym found.found.at ∙ opens.2) in
       ap names_of store ∙ home.2 ∙ ap (λ g. map (λ d. d.name) g.vars) (sym object)
       ∙ ap (λ x. map (λ d. d.name) x.vars) (sym (found-shows m i t e o found))
-
-  pub entered-count : length o.«data».items ≡ length o.written.now
-  entered-count =
-      let names = ap length entered-names in
-      omega (
-        arith,
-        names,
-        length-map (store_of o) (λ v. v.0),
-        length-map o.written.now (λ d. d.name),
-        length-vars [] o.«data».items,
-      )

@@ -16,9 +16,11 @@ use Rattle.law_dispatching.specs.Queueing.{places}
 use Rattle.law_dispatching.specs.Renumbering.{DifferInOrders}
 use Rattle.task_runtime.specs.Effort.{most_ends}
 use Rattle.task_runtime.specs.Readies.{is_ready}
-use Rattle.task_runtime.specs.Works.{asked, task_of, used_ticks}
-use Rattle.task_runtime.specs.declared.task.Readiness.TheVariants as readies
-use Rattle.task_runtime.specs.declared.task.Task.{Task}
+use Rattle.task_runtime.specs.Works.{asked, used_ticks}
+use Rattle.linked_task.specs.Works.{task_of}
+use Rattle.task_runtime.specs.declared.readiness.Readiness.TheVariants as readies
+use Rattle.linked_task.specs.declared.task.Task.{Task}
+use Rattle.linked_task.specs.Sounds.{IsAtWork}
 use Rattle.ceil_runtime.specs.Left.{left}
 use Rattle.ceil_runtime.specs.Processing.{Follows, IsKept, IsSound, IsWithin, state_by}
 use Rattle.ceil_runtime.specs.Snapshots.{IsWholeAt, Snapshot, running_at, state_at, system_at}
@@ -31,7 +33,8 @@ use Rattle.ceil_runtime.proofs.Falling.{falls-arrival, falls-release, falls-use}
 use Rattle.ceil_runtime.proofs.Nearing.{nears-ticks, ran-few}
 use Rattle.ceil_runtime.proofs.Phases.{at_phase}
 use Rattle.ceil_runtime.proofs.Processed.{Changed, arriving-ends, arriving-goes, changed-system, first-entry, follows-of, follows-renumbered, get-put}
-use Rattle.ceil_runtime.proofs.Processed.{idle-run, idle-sound, no-entry, ready-known, set-twice, still-reached, use-run, use-sound}
+use Rattle.ceil_runtime.proofs.Processed.{changed-at-work, idle-run, idle-sound, no-entry, ready-known, same-at-work, set-twice, still-reached}
+use Rattle.ceil_runtime.proofs.Processed.{use-run, use-sound}
 use Rattle.ceil_runtime.proofs.Released.{delays-over, going-readiness, over-sound, release-differs, release-run, release-sound, waiting-apart}
 use Rattle.ceil_runtime.proofs.Released.{waiting-free, woken-asleep, woken-known}
 
@@ -48,7 +51,7 @@ module _ (s : Snapshot) (whole : IsWholeAt (at_phase Delays s)) where
       record {
         whole = λ on. record {
           sound = over-sound s.stores s.arrivals s.until s.time s.costs s.units s.ran s.tasks s.queues whole.sound q' none is;
-          callees = whole.callees;
+          at_work = whole.at_work;
           reached = still-reached whole f;
         };
         follows = f;
@@ -79,16 +82,19 @@ module _ (s : Snapshot) (whole : IsWholeAt (at_phase Delays s)) where
       pub woken-next : t.next < 2 ^ 63
       woken-next = omega (arith, woken-kept.next, whole.sound.near)
 
+      pub woken-at-work : IsAtWork s.code t.progress
+      woken-at-work = whole.at_work i t woken-here
+
       pub woken-works : t.works < 2 ^ 63
       woken-works = omega (arith, woken-kept.works, whole.sound.in_time, whole.sound.near)
 
       -- it is released
       pub release-step : (t' : Task) → task_of t' ≡ released s.costs (task_of t) → t'.progress.stack.thread ≡ t.progress.stack.thread
-          → t'.works ≤ t.works + min t'.left 1 → t'.next < t.next + 2 ^ 32 → (q' : Queues)
+          → t'.works ≤ t.works + min t'.left 1 → t'.next < t.next + 2 ^ 32 → IsAtWork s.code t'.progress → (q' : Queues)
           → q' ≡ record s.queues { ready = at_tail (i, t'.active) s.queues.ready; asleep = after_due s.time s.queues.asleep }
           → Steps (at_phase Delays s) (One (event.Release s.time t'.progress.stack.thread.unit t.gate.value))
           (record s { phase = Delays; stopped = false; tasks = set s.tasks i t'; queues = q' })
-      release-step t' does thread works near q' is =
+      release-step t' does thread works near at' q' is =
           let tasks' = set s.tasks i t' in
           let c : Changed s.tasks tasks' i t t' (released s.costs) = record { here = woken-here; set_is = refl; does = does; thread = thread } in
           let same = changed-system s.tasks tasks' i t t' (released s.costs) c s.until s.costs s.units in
@@ -109,7 +115,7 @@ module _ (s : Snapshot) (whole : IsWholeAt (at_phase Delays s)) where
             whole = λ on. record {
               sound = release-sound s.stores s.arrivals s.until s.time s.costs s.units s.ran s.tasks s.queues whole.sound i first tasks' t t' c q' is
                   works near;
-              callees = whole.callees;
+              at_work = changed-at-work s.tasks tasks' i t t' (released s.costs) c s.code whole.at_work at';
               reached = still-reached whole f;
             };
             follows = f;
@@ -138,7 +144,7 @@ module _ (s : Snapshot) (a : Arrival) (others : List Arrival) (whole : IsWholeAt
       follows-of (system_at s) (system_at s) 1 _ _ _ _ [] refl
       (nobody-asked s.stores a others s.until s.time s.costs s.units s.ran s.tasks s.queues whole.sound now none) refl refl in
       record {
-        whole = λ on. record { sound = whole.sound; callees = whole.callees; reached = still-reached whole f };
+        whole = λ on. record { sound = whole.sound; at_work = whole.at_work; reached = still-reached whole f };
         follows = f;
         ends = refl;
         nears = omega arith;
@@ -169,6 +175,9 @@ module _ (s : Snapshot) (a : Arrival) (others : List Arrival) (whole : IsWholeAt
       pub reached-next : t'.next < 2 ^ 63
       reached-next = let k = reached-sound.kept i t' now-here in omega (arith, k.next, whole.sound.near)
 
+      pub reached-at-work : t'.progress ≡ t.progress → IsAtWork s.code t'.progress
+      reached-at-work progress = subst (IsAtWork s.code) (sym progress) (whole.at_work i t asks.here)
+
       pub reached-works : t'.works < 2 ^ 63
       reached-works = let k = reached-sound.kept i t' now-here in omega (arith, k.works, whole.sound.in_time, whole.sound.near)
 
@@ -180,9 +189,9 @@ module _ (s : Snapshot) (a : Arrival) (others : List Arrival) (whole : IsWholeAt
       reached-unit = asked-unit s.stores a others s.until s.time s.costs s.units s.ran s.tasks s.queues whole.sound now i found t t' arrived asks
 
       -- it doesn't wait
-      pub kept-step : (t'.readiness ≡ readies.Waiting → ⊥) → Steps coming (One (event.Arrive s.time a.task a.value))
+      pub kept-step : t'.progress ≡ t.progress → (t'.readiness ≡ readies.Waiting → ⊥) → Steps coming (One (event.Arrive s.time a.task a.value))
           (record s { phase = Arriving; stopped = false; arrivals = others; tasks = arrived })
-      kept-step not =
+      kept-step progress not =
           let f : Follows (running_at coming) (event.Arrive s.time a.task a.value ∷ [])
           (running_at (record s { phase = Arriving; stopped = false; arrivals = others; tasks = arrived })) =
           follows-of (system_at s) _ 1 _ _ _ _ (event.Arrive s.time a.task a.value ∷ []) refl
@@ -191,7 +200,11 @@ module _ (s : Snapshot) (a : Arrival) (others : List Arrival) (whole : IsWholeAt
           (asked-state s.stores a others s.until s.time s.costs s.units s.ran s.tasks s.queues whole.sound now i found t t' arrived asks)
           (changed-system s.tasks arrived i t t' (asked a.value) asks s.until s.costs s.units) in
           record {
-            whole = λ on. record { sound = reached-sound; callees = whole.callees; reached = still-reached whole f };
+            whole = λ on. record {
+              sound = reached-sound;
+              at_work = same-at-work s.tasks arrived i t t' (asked a.value) asks s.code whole.at_work progress;
+              reached = still-reached whole f;
+            };
             follows = f;
             ends = (tt, refl);
             nears = tt;
@@ -202,11 +215,11 @@ module _ (s : Snapshot) (a : Arrival) (others : List Arrival) (whole : IsWholeAt
 
       -- it waits, and is released
       pub served-step : t'.readiness ≡ readies.Waiting → (t'' : Task) → task_of t'' ≡ released s.costs (task_of t')
-          → t''.progress.stack.thread ≡ t'.progress.stack.thread → t''.works ≤ t'.works + min t''.left 1 → (q' : Queues)
-          → q' ≡ record s.queues { ready = at_tail (i, t''.active) s.queues.ready }
+          → t''.progress.stack.thread ≡ t'.progress.stack.thread → t''.works ≤ t'.works + min t''.left 1 → t'.progress ≡ t.progress
+          → IsAtWork s.code t''.progress → (q' : Queues) → q' ≡ record s.queues { ready = at_tail (i, t''.active) s.queues.ready }
           → Steps coming (Two (event.Arrive s.time a.task a.value) (event.Release s.time t''.progress.stack.thread.unit a.value))
           (record s { phase = Arriving; stopped = false; arrivals = others; tasks = set s.tasks i t''; queues = q' })
-      served-step waits t'' does' thread' works q' is =
+      served-step waits t'' does' thread' works progress at'' q' is =
           let tasks'' = set s.tasks i t'' in
           let again : Changed arrived tasks'' i t' t'' (released s.costs)
           = record { here = now-here; set_is = sym (set-twice s.tasks i t' t''); does = does'; thread = thread' } in
@@ -237,7 +250,8 @@ module _ (s : Snapshot) (a : Arrival) (others : List Arrival) (whole : IsWholeAt
             whole = λ on. record {
               sound = answered-sound s.stores a others s.until s.time s.costs s.units s.ran s.tasks s.queues whole.sound now i found t t' arrived asks
                   t'' tasks'' again waits q' same is works;
-              callees = whole.callees;
+              at_work = changed-at-work arrived tasks'' i t' t'' (released s.costs) again s.code
+                  (same-at-work s.tasks arrived i t t' (asked a.value) asks s.code whole.at_work progress) at'';
               reached = still-reached whole f;
             };
             follows = f;
@@ -287,7 +301,7 @@ module _ (s : Snapshot) (whole : IsWholeAt (at_phase Arriving s)) (none : NoArri
             few = whole.sound.few;
             in_time = whole.sound.in_time;
           };
-          callees = whole.callees;
+          at_work = whole.at_work;
           reached = still-reached whole f;
         };
         follows = f;
@@ -319,7 +333,7 @@ module _ (s : Snapshot) (whole : IsWholeAt (at_phase Use s)) (ticks : ℕ) (some
       (sym same) (record {
         whole = λ on. record {
           sound = idle-sound s.stores s.arrivals s.until s.time s.costs s.units s.ran s.tasks s.queues whole.sound ticks some horizon wake quiet;
-          callees = whole.callees;
+          at_work = whole.at_work;
           reached = still-reached whole f;
         };
         follows = f;
@@ -347,7 +361,7 @@ module _ (s : Snapshot) (whole : IsWholeAt (at_phase Use s)) (ticks : ℕ) (some
       using-small = let k = whole.sound.kept i t using-here in omega (arith, k.used, whole.sound.in_time, whole.sound.near)
 
       pub use-step : (t' : Task) → task_of t' ≡ used_ticks ticks (task_of t) → t'.progress.stack.thread ≡ t.progress.stack.thread
-          → t'.readiness ≡ t.readiness → IsWithin s.tasks s.queues.ready ticks → Steps (at_phase Use s) Nothing
+          → t'.readiness ≡ t.readiness → t'.progress ≡ t.progress → IsWithin s.tasks s.queues.ready ticks → Steps (at_phase Use s) Nothing
           (record s {
             time = s.time + ticks;
             phase = Effects (Some i);
@@ -356,14 +370,15 @@ module _ (s : Snapshot) (whole : IsWholeAt (at_phase Use s)) (ticks : ℕ) (some
             tasks = set s.tasks i t';
             queues = q';
           })
-      use-step t' does thread ready within =
+      use-step t' does thread ready progress within =
           let tasks' = set s.tasks i t' in
           let c : Changed s.tasks tasks' i t t' (used_ticks ticks) = record { here = using-here; set_is = refl; does = does; thread = thread } in
           let same = changed-system s.tasks tasks' i t t' (used_ticks ticks) c s.until s.costs s.units in
           let sound = use-sound s.stores s.arrivals s.until s.time s.costs s.units s.ran s.tasks s.queues whole.sound ticks some horizon wake quiet i
           first.0 tasks' t t' c first.1 within (ap (λ v. v.left) does) (ap (λ v. v.used) does) (ap (λ v. v.works) does) (ap (λ v. v.next) does) ready
           q' is in
-          let few = ran-few s.until (s.time + ticks) s.costs s.units tasks' (Some i) sound.kept in
+          let at_work' = same-at-work s.tasks tasks' i t t' (used_ticks ticks) c s.code whole.at_work progress in
+          let few = ran-few s.until (s.time + ticks) s.costs s.units tasks' (Some i) sound.kept s.code at_work' in
           let f : Follows (running_at (at_phase Use s)) [] (running_at (record s {
             time = s.time + ticks;
             phase = Effects (Some i);
@@ -377,7 +392,7 @@ module _ (s : Snapshot) (whole : IsWholeAt (at_phase Use s)) (ticks : ℕ) (some
           tasks' t t' c first.1 within (ap (λ v. v.left) does) (ap (λ v. v.used) does) (ap (λ v. v.works) does) (ap (λ v. v.next) does) ready)
           (ap (λ (q : Queues). state_by s.stores s.arrivals (s.time + ticks) (Effects (Some i)) (Some i) false tasks' q.ready) (sym is)) same in
           record {
-            whole = λ on. record { sound = sound; callees = whole.callees; reached = still-reached whole f };
+            whole = λ on. record { sound = sound; at_work = at_work'; reached = still-reached whole f };
             follows = f;
             ends = refl;
             nears = nears-ticks (Some i) s.arrivals s.until s.time (s.time + ticks) (most_ends (system_at s)) _ s.tasks tasks' s.ran (Some i)

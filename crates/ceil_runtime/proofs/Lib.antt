@@ -30,4 +30,5 @@ pub mod Homes
 pub mod ExamplesSections
 pub mod ExamplesActed
 pub mod Alone
+pub mod Linked
 pub mod Shared

@@ -15,11 +15,13 @@ use Rattle.ceil_runtime.specs.Processing.{AllTasks, IsKept, system_by}
 use Rattle.ceil_runtime.specs.Left.{effort_of, ran_effort}
 use Rattle.ceil_runtime.specs.Stepping.{steps_by}
 use Rattle.task_runtime.specs.Libraries.{libraries_from, objects_from}
-use Rattle.task_runtime.specs.Works.{task_of}
+use Rattle.linked_task.specs.Works.{task_of}
 use Rattle.task_runtime.specs.Written.{system_of, params_of, reserve, thread_of}
-use Rattle.task_runtime.specs.declared.task.Task.{Task}
+use Rattle.linked_task.specs.declared.task.Task.{Task}
+use Rattle.linker.specs.declared.program.LinkedUnits.{LinkedUnits}
+use Rattle.ceil_runtime.specs.Snapshots.{AreAtWork}
 use Rattle.ceil_runtime.specs.declared.processor.Phase.TheVariants.{Effects, Use}
-use Rattle.task_runtime.proofs.Shared.AtWork.{effort-few}
+use Rattle.linked_task.proofs.Shared.AtWork.{effort-few}
 
 -- the sum of a list by its first number
 fold-from : (a : ℕ) (xs : List ℕ) → fold ◌+◌ a xs ≡ a + fold ◌+◌ 0 xs
@@ -52,9 +54,10 @@ reserve-most until time costs us tasks i t at of =
     omega (arith, sum-most tasks i t at, room, length-map (params_of t.progress.stack.thread) (λ q. q.name))
 
 pub ran-few : (until time : ℕ) (costs : Costs) (us : List units.Unit) (tasks : List Task) (ran : Option ℕ) → AllTasks (IsKept until time us) tasks
+    → (code : LinkedUnits) → AreAtWork code tasks
     → ran_effort (most_ends (system_by until costs us tasks)) (map task_of tasks) ran ≤ most_ends (system_by until costs us tasks)
-ran-few until time costs us tasks None kept = omega arith
-ran-few until time costs us tasks (Some i) kept
+ran-few until time costs us tasks None kept code at_work = omega arith
+ran-few until time costs us tasks (Some i) kept code at_work
     = subst (λ (o : Option states.Task). effort_of (most_ends (system_by until costs us tasks)) o ≤ most_ends (system_by until costs us tasks))
     (sym (slice_get-map task_of tasks i)) (by_task (slice_get tasks i) refl)
   where
@@ -70,7 +73,7 @@ ran-few until time costs us tasks (Some i) kept
     by_task : (o : Option Task) → slice_get tasks i ≡ o → effort_of (most_ends (system_by until costs us tasks)) (option_map task_of o)
         ≤ most_ends (system_by until costs us tasks)
     by_task None at = omega arith
-    by_task (Some t) at = by_left t (t.left == 0) (effort-few (most_ends (system_by until costs us tasks)) t
+    by_task (Some t) at = by_left t (t.left == 0) (effort-few code (most_ends (system_by until costs us tasks)) t (at_work i t at)
         (reserve-most until time costs us tasks i t at (kept i t at).units))
 
 -- the use of ticks

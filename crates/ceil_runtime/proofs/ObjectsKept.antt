@@ -1,21 +1,20 @@
 -- The protected objects of a machine are those of its units, whatever their data are.
 use Rattle.std.specs.Prelude.{◌≡◌, ℕ, zero, suc, ◌<◌, List, [], ◌∷◌, length, map, set, Option, Some, None, option_map, slice_get, unwrap_or, refl}
-use Rattle.std.proofs.Common.{sym, ◌∙◌, ap, subst}
+use Rattle.std.proofs.Common.{sym, ◌∙◌, ap}
 use Rattle.std.proofs.lemmas.Option.{same_Some, slice_get-map}
-use Rattle.seq_tree.specs.Variables.{written}
 use Rattle.seq_tree.specs.declared.tree.Costs.{Costs}
 use Rattle.ada_tree.specs.Trees.{unit_of}
 use Rattle.ada_tree.specs.declared.program.Unit as units
 use Rattle.machine.specs.Systems.{ProtectedUnit, System}
 use Rattle.machine.specs.Effects.{ceiling_of, object_unit}
 use Rattle.machine.specs.States.{Object as InObject}
-use Rattle.task_runtime.specs.Fitting.{IsOfObject}
 use Rattle.task_runtime.specs.Libraries.{objects_from}
 use Rattle.ceil_runtime.specs.Objects.{AreObjectsOf, first_object, lasting, shown, store_of}
 use Rattle.ceil_runtime.specs.Processing.{system_by}
 use Rattle.ceil_runtime.specs.declared.object.Object.{Object}
-use Rattle.task_runtime.specs.declared.piece.Entry.{Entry}
-use Rattle.task_runtime.specs.declared.task.Task.{Task}
+use Rattle.linked_task.specs.declared.piece.Entry.{Entry}
+use Rattle.linked_task.specs.declared.task.Task.{Task}
+use Rattle.linked_task.proofs.Shared.AtWork.{IsThere}
 
 twice : {A B C : Type 0} (g : B → C) (f : A → B) (xs : List A) → map g (map f xs) ≡ map (λ x. g (f x)) xs
 twice g f [] = refl
@@ -66,27 +65,14 @@ object-at us os known k g at = by_place (slice_get os k) refl
       shows = same_Some (lasting (shown o)) (lasting (first_object g)) (ap (option_map (λ h. lasting (shown h))) (sym is) ∙ both);
     }
 
--- the object that a call leaves is there
+-- the object that a task enters or leaves is there
 pub record IsEntered (y : System) (e : Entry) : Type 0 where
   pub entered : ProtectedUnit
   pub at : slice_get y.objects e.object ≡ Some entered
-  pub vars : written entered.vars ≡ written e.«data».now
   pub is_op : e.place < length entered.ops
 
-pub entered-by : (y : System) (e : Entry) → IsOfObject y e → IsEntered y e
-entered-by y e of = by_place (slice_get y.objects e.object) refl
-  where
-    by_place : (x : Option ProtectedUnit) → slice_get y.objects e.object ≡ x → IsEntered y e
-    by_place None is = absurd (cc (ap (option_map (λ g. written g.vars)) (sym is) ∙ of.0))
-    by_place (Some g) is = record {
-      entered = g;
-      at = is;
-      vars = one (ap (option_map (λ h. written h.vars)) (sym is) ∙ of.0);
-      is_op = subst (λ o. e.place < unwrap_or (option_map (λ h. length h.ops) o) 0) is of.1;
-    }
-      where
-        one : Some (written g.vars) ≡ Some (written e.«data».now) → written g.vars ≡ written e.«data».now
-        one k = cc
+pub entered-by : (y : System) (e : Entry) → IsThere y e.object e.place → IsEntered y e
+entered-by y e of = record { entered = of.0; at = of.1; is_op = of.2 }
 
 -- its unit and its ceiling
 module _ (until : ℕ) (costs : Costs) (us : List units.Unit) (tasks : List Task) (k : ℕ) (g : ProtectedUnit)

@@ -1,17 +1,15 @@
 -- A processor in a known part of an instant, whose run goes on: it is the same with that part and that it has not stopped written out, so that
 -- what a step comes to is found by computing.
-use Rattle.std.specs.Prelude.{◌≡◌, ℕ, ◌<◌, ◌^◌, false, Some, get_or, length, map, slice_get, refl}
+use Rattle.std.specs.Prelude.{◌≡◌, ℕ, ◌<◌, ◌^◌, false, Some, get_or, length, slice_get, refl}
 use Rattle.std.proofs.Common.{sym, ◌∙◌, ap, subst, arith}
 use Rattle.std.proofs.lemmas.Option.{same_Some, slice_get_read}
-use Rattle.ada_tree.specs.Trees.{unit_of}
-use Rattle.task_runtime.specs.Called.{AreCallees}
-use Rattle.task_runtime.specs.Libraries.{system_from}
-use Rattle.task_runtime.specs.Doing.{IsDeed}
-use Rattle.task_runtime.specs.Works.{ActsAs, task_of}
+use Rattle.linked_task.specs.Doings.{IsDeed}
+use Rattle.linked_task.specs.Works.{ActsAs, task_of}
 use Rattle.task_runtime.specs.Written.{system_of}
-use Rattle.task_runtime.specs.declared.effects.Deed.{Deed}
-use Rattle.task_runtime.specs.declared.piece.Piece.{Piece}
-use Rattle.task_runtime.specs.declared.task.Task.{Task}
+use Rattle.linked_task.specs.declared.piece.Deed.{Deed}
+use Rattle.linked_task.specs.declared.piece.Piece.{Piece}
+use Rattle.linked_task.specs.declared.task.Task.{Task}
+use Rattle.linked_task.specs.Sounds.{IsAtWork}
 use Rattle.ceil_runtime.specs.Acted.{IsActing, IsDoing}
 use Rattle.ceil_runtime.specs.Processing.{HasPiece, IsKept}
 use Rattle.ceil_runtime.specs.Snapshots.{IsWholeAt, Snapshot}
@@ -71,7 +69,7 @@ module _ (s : Snapshot) (i : ℕ) (acts : IsActing s i) where
     pub caller-here : slice_get s.tasks i ≡ Some t
     caller-here = slice_get_read s.tasks (length s.tasks) i t refl caller-known read
 
-    caller-kept : IsKept s.until s.time s.units t
+    pub caller-kept : IsKept s.until s.time s.units t
     caller-kept = whole-acting.sound.kept i t caller-here
 
     pub caller-works : t.works < 2 ^ 63
@@ -80,13 +78,11 @@ module _ (s : Snapshot) (i : ℕ) (acts : IsActing s i) where
     pub caller-used : t.used < 2 ^ 63
     caller-used = omega (arith, caller-kept.used, whole-acting.sound.in_time, whole-acting.sound.near)
 
-    pub caller-callees : AreCallees s.callees (system_of t.progress.stack.thread)
-    caller-callees =
-        subst (λ us. AreCallees s.callees (system_from t.progress.stack.thread.work.now (map unit_of us))) (sym caller-kept.units)
-        (acts.whole.callees t.progress.stack.thread.work.now)
+    pub caller-at-work : IsAtWork s.code t.progress
+    caller-at-work = acts.whole.at_work i t caller-here
 
     -- with its piece
-    pub doing-of : (p : Piece) (d : Deed) → HasPiece s.tasks i p → IsDeed (system_of t.progress.stack.thread) p d
+    pub doing-of : (p : Piece) (d : Deed) → HasPiece s.tasks i p → IsDeed s.code t.progress.stack p d
         → ActsAs (system_of t.progress.stack.thread) (task_of t) d → (w : Task) × IsDoing s i p d w
     doing-of p d has deed reaches =
         let h = has t caller-here in

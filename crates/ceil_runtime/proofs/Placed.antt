@@ -22,7 +22,7 @@ use Rattle.task_runtime.specs.Libraries.{objects_from}
 use Rattle.ceil_runtime.specs.Processing.{AllTasks, IsKept}
 use Rattle.ceil_runtime.specs.Stepping.{HasObject, HasOp, HasUnit, IsOfTask}
 use Rattle.task_runtime.specs.Written.{system_of, thread_of}
-use Rattle.task_runtime.specs.declared.task.Task.{Task}
+use Rattle.linked_task.specs.declared.task.Task.{Task}
 
 -- the unit of a task, where there is one
 abbrev unit_or : ℕ → Option TaskUnit → ℕ

@@ -35,10 +35,13 @@ use Rattle.task_runtime.specs.Libraries.{no_costs}
 use Rattle.task_runtime.specs.Written.{system_of, thread_of}
 use Rattle.ceil_runtime.specs.Processing.{AreAlike, AllTasks, Follows, IsKept, IsSound, IsWithin, order_of, state_by, system_by, with_task}
 use Rattle.ceil_runtime.specs.Reaching.{IsReached}
-use Rattle.ceil_runtime.specs.Snapshots.{IsWholeAt, Snapshot, running_at}
+use Rattle.ceil_runtime.specs.Snapshots.{AreAtWork, IsWholeAt, Snapshot, running_at}
 use Rattle.task_runtime.specs.Readies.{is_ready}
-use Rattle.task_runtime.specs.Works.{IsNested, task_of, used_ticks}
-use Rattle.task_runtime.specs.declared.task.Task.{Task}
+use Rattle.task_runtime.specs.Works.{IsNested, used_ticks}
+use Rattle.linked_task.specs.Works.{task_of}
+use Rattle.linked_task.specs.declared.task.Task.{Task}
+use Rattle.linker.specs.declared.program.LinkedUnits.{LinkedUnits}
+use Rattle.linked_task.specs.Sounds.{IsAtWork}
 use Rattle.ceil_runtime.specs.declared.processor.Phase.TheVariants.{Effects, Arriving, Use}
 use Rattle.ceil_runtime.proofs.Reaching.{reached-renumbered, reached-run}
 
@@ -114,6 +117,13 @@ module _ (tasks tasks' : List Task) (i : ℕ) (t t' : Task) (f : states.Task →
   pub changed-all : (P Q : Task → Type 0) → AllTasks P tasks → ((u : Task) → P u → Q u) → Q t' → AllTasks Q tasks'
   changed-all P Q all g q = subst (AllTasks Q) (sym c.set_is) (all-set P Q tasks i t' all g q)
 
+  -- tasks of which one has changed are at work
+  pub changed-at-work : (code : LinkedUnits) → AreAtWork code tasks → IsAtWork code t'.progress → AreAtWork code tasks'
+  changed-at-work code all now = changed-all (λ u. IsAtWork code u.progress) (λ u. IsAtWork code u.progress) all (λ u h. h) now
+
+  pub same-at-work : (code : LinkedUnits) → AreAtWork code tasks → t'.progress ≡ t.progress → AreAtWork code tasks'
+  same-at-work code all same = changed-at-work code all (subst (IsAtWork code) (sym same) (all i t c.here))
+
   pub changed-system : (until : ℕ) (costs : Costs) (us : List units.Unit) → system_by until costs us tasks' ≡ system_by until costs us tasks
   changed-system until costs us = ap (λ ts. record (system_by until costs us tasks) { threads = ts }) changed-threads
 
@@ -127,6 +137,11 @@ module _ (tasks tasks' : List Task) (i : ℕ) (t t' : Task) (f : states.Task →
   -- a task that is there, as a state has it
   pub here-of : slice_get (map task_of tasks) i ≡ Some (task_of t)
   here-of = slice_get-map task_of tasks i ∙ ap (option_map task_of) c.here
+
+-- with another task at one place
+pub put-at-work : (code : LinkedUnits) (tasks : List Task) (i : ℕ) (t' : Task) → AreAtWork code tasks → IsAtWork code t'.progress
+    → AreAtWork code (set tasks i t')
+put-at-work code tasks i t' all now = all-set (λ u. IsAtWork code u.progress) (λ u. IsAtWork code u.progress) tasks i t' all (λ u h. h) now
 
 -- the calls of each task lead to the same in what runs
 pub runs-alike : (until : ℕ) (costs : Costs) (us : List units.Unit) (tasks : List Task) → AreAlike us tasks

@@ -29,15 +29,17 @@ use Rattle.law_dispatching.proofs.Shared.Sleeping.{apart-awake, first-due, none-
 use Rattle.law_dispatching.proofs.Shared.Places.{get-within}
 use Rattle.ceil_runtime.specs.Processing.{HoldsIn, IsKept, IsSound, order_of, state_by, system_by}
 use Rattle.task_runtime.specs.Effort.{sections_among}
-use Rattle.task_runtime.specs.Progressed.{is_idle, pieces_left}
+use Rattle.task_runtime.specs.Progressed.{is_idle}
+use Rattle.linked_task.specs.Lefts.{pieces_left}
 use Rattle.task_runtime.specs.Readies.{is_ready, readiness_of, rests_as}
-use Rattle.task_runtime.specs.Works.{IsNested, task_of}
+use Rattle.task_runtime.specs.Works.{IsNested}
+use Rattle.linked_task.specs.Works.{task_of}
 use Rattle.task_runtime.specs.Written.{timing_of}
 use Rattle.task_runtime.specs.declared.thread.Timing.{Timing}
 use Rattle.task_runtime.specs.declared.thread.Timing.TheVariants as timing
-use Rattle.task_runtime.specs.declared.task.Task.{Task}
-use Rattle.task_runtime.specs.declared.task.Readiness as readiness
-use Rattle.task_runtime.specs.declared.task.Readiness.TheVariants as readies
+use Rattle.linked_task.specs.declared.task.Task.{Task}
+use Rattle.task_runtime.specs.declared.readiness.Readiness as readiness
+use Rattle.task_runtime.specs.declared.readiness.Readiness.TheVariants as readies
 use Rattle.ceil_runtime.specs.declared.processor.Phase.{Phase}
 use Rattle.ceil_runtime.specs.declared.processor.Phase.TheVariants.{Delays, Arriving}
 use Rattle.ceil_runtime.proofs.Processed.{changed-alike, Changed, changed-all, changed-length, changed-tasks, here-of, step-run}

@@ -21,10 +21,11 @@ use Rattle.law_ceilings.specs.Premises.{MayExclude}
 use Rattle.ceil_runtime.specs.Reaching.{IsReached}
 use Rattle.ceil_runtime.proofs.Reaching.{opening-reached}
 use Rattle.ceil_runtime.specs.Processing.{AreAlike, IsKept, IsSound, state_by, system_by}
-use Rattle.task_runtime.specs.Progressed.{vars_left, pieces_left}
+use Rattle.linked_task.specs.Lefts.{vars_left, pieces_left}
 use Rattle.task_runtime.specs.Readies.{gate_of, readiness_of}
 use Rattle.ceil_runtime.specs.Starts.{AreOpen, CanStart, first_slept, opened, system_for}
-use Rattle.task_runtime.specs.Works.{IsFresh, IsNested, task_of}
+use Rattle.task_runtime.specs.Works.{IsNested}
+use Rattle.linked_task.specs.Works.{IsFresh, task_of}
 use Rattle.task_runtime.specs.Insides.{inside_of}
 use Rattle.ada_tree.specs.Trees.{unit_of}
 use Rattle.ceil_runtime.specs.Gathering.{AllThreads, IsThreadOf}
@@ -35,7 +36,9 @@ use Rattle.task_runtime.specs.Written.{system_of, thread_of, timing_of}
 use Rattle.task_runtime.specs.declared.thread.Thread.{Thread}
 use Rattle.task_runtime.specs.declared.thread.Timing.{Timing}
 use Rattle.task_runtime.specs.declared.thread.Timing.TheVariants as timing
-use Rattle.task_runtime.specs.declared.task.Task.{Task}
+use Rattle.linked_task.specs.declared.task.Task.{Task}
+use Rattle.linker.specs.declared.program.LinkedUnits.{LinkedUnits}
+use Rattle.linked_task.specs.Sounds.{IsAtWork}
 use Rattle.ceil_runtime.specs.declared.processor.Phase.TheVariants.{Effects}
 
 module _ {A : Type 0} where
@@ -91,13 +94,14 @@ waiting-push ts time asleep t a awake = record {
     by_place j k u sleeps (inl h) = a.all j k u h sleeps
     by_place j k u sleeps (inr h) = absurd (awake k (ap (λ v. v.readiness) h.1 ∙ sleeps))
 
-pub open-none : (until : ℕ) (us : List units.Unit) (q : Queues) → q.ready ≡ [] → q.asleep ≡ [] → AreOpen until us [] [] q
-open-none until us q ready asleep = record {
+pub open-none : (until : ℕ) (us : List units.Unit) (code : LinkedUnits) (q : Queues) → q.ready ≡ [] → q.asleep ≡ [] → AreOpen until us code [] [] q
+open-none until us code q ready asleep = record {
   tasks_are = refl;
   threads_are = refl;
   ready = ready;
   sleeping = subst (AreSleeping [] 0) (sym asleep) (record { each = tt; all = λ j k u here sleeps. absurd (none here); ordered = tt });
   kept = λ i t at. absurd (none' at);
+  at_work = λ i t at. absurd (none' at);
 }
   where
     none : {u : states.Task} → None ≡ Some u → ⊥
@@ -106,8 +110,9 @@ open-none until us q ready asleep = record {
     none' : {u : Task} → None ≡ Some u → ⊥
     none' k = cc
 
-module _ (until : ℕ) (us : List units.Unit) (threads : List Thread) (tasks : List Task) (q : Queues) (o : AreOpen until us threads tasks q) (t : Task)
-    (th : Thread) (fresh : IsFresh t th) (can : CanStart us th) where
+module _ (until : ℕ) (us : List units.Unit) (code : LinkedUnits) (threads : List Thread) (tasks : List Task) (q : Queues)
+    (o : AreOpen until us code threads tasks q) (t : Task) (th : Thread) (fresh : IsFresh t th) (at' : IsAtWork code t.progress)
+    (can : CanStart us th) where
   first : task_of t ≡ first_task (thread_of th)
   first =
       let view : Thread → _ → _ → ℕ → ℕ → ℕ → ℕ → states.Readiness → states.Gate → states.Task
@@ -138,7 +143,7 @@ module _ (until : ℕ) (us : List units.Unit) (threads : List Thread) (tasks : L
 
   -- with one task more, and the lists that stand for it
   open-pushed : (q' : Queues) → q'.ready ≡ q.ready → AreSleeping (map task_of tasks ++ task_of t ∷ []) 0 q'.asleep
-      → AreOpen until us (threads ++ th ∷ []) (tasks ++ t ∷ []) q'
+      → AreOpen until us code (threads ++ th ∷ []) (tasks ++ t ∷ []) q'
   open-pushed q' ready slept =
       let ts_is : map task_of (tasks ++ t ∷ []) ≡ map task_of tasks ++ task_of t ∷ [] = map-append task_of tasks (t ∷ []) in
       record {
@@ -149,6 +154,7 @@ module _ (until : ℕ) (us : List units.Unit) (threads : List Thread) (tasks : L
         ready = ready ∙ o.ready;
         sleeping = subst (λ (ts : List states.Task). AreSleeping ts 0 q'.asleep) (sym ts_is) slept;
         kept = λ i u at. by_place i u (get-push tasks t u i at);
+        at_work = λ i u at. works_at i u (get-push tasks t u i at);
       }
     where
       keeps : IsKept until 0 us t
@@ -165,9 +171,13 @@ module _ (until : ℕ) (us : List units.Unit) (threads : List Thread) (tasks : L
       by_place i u (inl h) = o.kept i u h
       by_place i u (inr h) = subst (IsKept until 0 us) h.1 keeps
 
+      works_at : (i : ℕ) (u : Task) → (slice_get tasks i ≡ Some u) ⊎ ((i ≡ length tasks) × (t ≡ u)) → IsAtWork code u.progress
+      works_at i u (inl h) = o.at_work i u h
+      works_at i u (inr h) = subst (λ (v : Task). IsAtWork code v.progress) h.1 at'
+
   -- it sleeps until its offset
   pub open-more : (offset period : ℕ) (q' : Queues) → th.timing ≡ timing.Periodic offset period
-      → q' ≡ record q { asleep = in_time (length tasks, offset) q.asleep } → AreOpen until us (threads ++ th ∷ []) (tasks ++ t ∷ []) q'
+      → q' ≡ record q { asleep = in_time (length tasks, offset) q.asleep } → AreOpen until us code (threads ++ th ∷ []) (tasks ++ t ∷ []) q'
   open-more offset period q' timed is =
       let slept : AreSleeping (map task_of tasks ++ task_of t ∷ []) 0 (in_time (length (map task_of tasks), max offset 0) q.asleep) =
       sleeping-push (map task_of tasks) 0 q.asleep (task_of t) offset o.sleeping
@@ -179,7 +189,8 @@ module _ (until : ℕ) (us : List units.Unit) (threads : List Thread) (tasks : L
       (subst (λ (n : ℕ). AreSleeping (map task_of tasks ++ task_of t ∷ []) 0 (in_time (length (map task_of tasks), n) q.asleep)) most slept)))
 
   -- it waits
-  pub open-waiting : ((offset period : ℕ) → th.timing ≡ timing.Periodic offset period → ⊥) → AreOpen until us (threads ++ th ∷ []) (tasks ++ t ∷ []) q
+  pub open-waiting : ((offset period : ℕ) → th.timing ≡ timing.Periodic offset period → ⊥)
+      → AreOpen until us code (threads ++ th ∷ []) (tasks ++ t ∷ []) q
   open-waiting other =
       open-pushed q refl (waiting-push (map task_of tasks) 0 q.asleep (task_of t) o.sleeping
       (λ k h. by_timing th.timing refl k (sym (ap (λ u. u.readiness) first) ∙ h)))
@@ -189,25 +200,26 @@ module _ (until : ℕ) (us : List units.Unit) (threads : List Thread) (tasks : L
       by_timing (timing.Requested op ceiling separation jitter external) e k h = cc (sym (ap (λ w. first_wait (timing_of w)) e) ∙ h)
 
 -- it sleeps or waits
-pub open-next : (until : ℕ) (us : List units.Unit) (threads : List Thread) (tasks : List Task) (q : Queues) (o : AreOpen until us threads tasks q)
-    (t : Task) (th : Thread) → IsFresh t th → CanStart us th
-    → (q' : Queues) → q' ≡ first_slept th.timing (length tasks) q → AreOpen until us (threads ++ th ∷ []) (tasks ++ t ∷ []) q'
-open-next until us threads tasks q o t th fresh can q' is = by_timing th.timing refl
+pub open-next : (until : ℕ) (us : List units.Unit) (code : LinkedUnits) (threads : List Thread) (tasks : List Task) (q : Queues)
+    (o : AreOpen until us code threads tasks q) (t : Task) (th : Thread) → IsFresh t th → IsAtWork code t.progress → CanStart us th
+    → (q' : Queues) → q' ≡ first_slept th.timing (length tasks) q → AreOpen until us code (threads ++ th ∷ []) (tasks ++ t ∷ []) q'
+open-next until us code threads tasks q o t th fresh at' can q' is = by_timing th.timing refl
   where
-    by_timing : (w : Timing) → th.timing ≡ w → AreOpen until us (threads ++ th ∷ []) (tasks ++ t ∷ []) q'
+    by_timing : (w : Timing) → th.timing ≡ w → AreOpen until us code (threads ++ th ∷ []) (tasks ++ t ∷ []) q'
     by_timing (timing.Periodic offset period) e
-        = open-more until us threads tasks q o t th fresh can offset period q' e (is ∙ ap (λ w. first_slept w (length tasks) q) e)
+        = open-more until us code threads tasks q o t th fresh at' can offset period q' e (is ∙ ap (λ w. first_slept w (length tasks) q) e)
     by_timing (timing.Requested op ceiling separation jitter external) e =
-        subst (AreOpen until us (threads ++ th ∷ []) (tasks ++ t ∷ [])) (sym (is ∙ ap (λ w. first_slept w (length tasks) q) e))
-        (open-waiting until us threads tasks q o t th fresh can (λ offset period other. wrong offset period (sym e ∙ other)))
+        subst (AreOpen until us code (threads ++ th ∷ []) (tasks ++ t ∷ [])) (sym (is ∙ ap (λ w. first_slept w (length tasks) q) e))
+        (open-waiting until us code threads tasks q o t th fresh at' can (λ offset period other. wrong offset period (sym e ∙ other)))
       where
         wrong : (offset period : ℕ) → timing.Requested op ceiling separation jitter external ≡ timing.Periodic offset period → ⊥
         wrong offset period k = cc
 
 -- the next task is in neither list
-pub open-free : (until : ℕ) (us : List units.Unit) (threads : List Thread) (tasks : List Task) (q : Queues) → AreOpen until us threads tasks q
+pub open-free : (until : ℕ) (us : List units.Unit) (code : LinkedUnits) (threads : List Thread) (tasks : List Task) (q : Queues)
+    → AreOpen until us code threads tasks q
     → length tasks < q.size → IsFree q (length tasks)
-open-free until us threads tasks q o known = record {
+open-free until us code threads tasks q o known = record {
   known = known;
   not_ready = subst (IsApart (length tasks)) (sym o.ready) tt;
   not_asleep = each-map (SleepsUntil (map task_of tasks) 0) (λ e. length tasks ≢ e.0) q.asleep (λ e s. λ same. past e s same) o.sleeping.each;
@@ -246,8 +258,8 @@ start-alike work us ts are each = λ i t at.
     ∙ ap (λ ths. record (system_for 0 no_costs us ts) { threads = ths }) (sym are)
 
 -- all tasks are open
-module _ (until : ℕ) (costs : Costs) (us : List units.Unit) (threads : List Thread) (tasks : List Task) (q : Queues)
-    (o : AreOpen until us threads tasks q) (near : until < 2 ^ 32) (few : length tasks < 2 ^ 32) (size : q.size
+module _ (until : ℕ) (costs : Costs) (us : List units.Unit) (code : LinkedUnits) (threads : List Thread) (tasks : List Task) (q : Queues)
+    (o : AreOpen until us code threads tasks q) (near : until < 2 ^ 32) (few : length tasks < 2 ^ 32) (size : q.size
     ≡ length tasks) (alike : AreAlike us tasks) where
   pub open-sound : IsSound until 0 (Effects None) None us tasks q
   open-sound = record {

@@ -19,17 +19,19 @@ use Rattle.law_dispatching.specs.Renumbering.{DifferInOrders}
 use Rattle.task_runtime.specs.Doing.{act_of}
 use Rattle.task_runtime.specs.Effort.{most_ends}
 use Rattle.task_runtime.specs.Readies.{is_ready, readiness_of}
-use Rattle.task_runtime.specs.Works.{EffortFalls, IsNested, task_of}
+use Rattle.task_runtime.specs.Works.{EffortFalls, IsNested}
+use Rattle.linked_task.specs.Works.{task_of}
 use Rattle.task_runtime.specs.Written.{reserve}
 use Rattle.task_runtime.specs.declared.effects.Act.{Act}
 use Rattle.task_runtime.specs.declared.effects.Act.TheVariants.{Finish}
-use Rattle.task_runtime.specs.declared.task.Readiness.{Readiness}
-use Rattle.task_runtime.specs.declared.task.Readiness.TheVariants as readies
-use Rattle.task_runtime.specs.declared.task.Task.{Task}
-use Rattle.ceil_runtime.specs.Acted.{HasDone}
+use Rattle.task_runtime.specs.declared.readiness.Readiness.{Readiness}
+use Rattle.task_runtime.specs.declared.readiness.Readiness.TheVariants as readies
+use Rattle.linked_task.specs.declared.task.Task.{Task}
+use Rattle.linked_task.specs.Sounds.{IsAtWork}
+use Rattle.linked_task.specs.Alongs.{HasDone}
 use Rattle.ceil_runtime.specs.Left.{ran_effort, sleeper, sleepers}
 use Rattle.ceil_runtime.specs.Processing.{Follows, IsSound, order_of, state_by, system_by}
-use Rattle.ceil_runtime.specs.Snapshots.{IsWholeAt, Snapshot, running_at, state_at, system_at}
+use Rattle.ceil_runtime.specs.Snapshots.{AreAtWork, IsWholeAt, Snapshot, running_at, state_at, system_at}
 use Rattle.ceil_runtime.specs.Stepping.{AreOfTask, Ends, HasUnit, IsNear, Steps, told_of}
 use Rattle.ceil_runtime.specs.declared.processor.Phase.TheVariants.{Effects, Delays}
 use Rattle.ceil_runtime.specs.declared.processor.Told.{Told}
@@ -38,12 +40,12 @@ use Rattle.ceil_runtime.proofs.Falling.{falls-effect, sleeper-most, sleepers-sum
 use Rattle.ceil_runtime.proofs.Nearing.{fewer-effects, nears-effect, reserve-most}
 use Rattle.ceil_runtime.proofs.Phases.{acting, at_phase}
 use Rattle.ceil_runtime.proofs.Processed.{Changed, changed-system, follows-of, follows-renumbered, get-put, get_within, here-of, step-run}
-use Rattle.ceil_runtime.proofs.Processed.{still-reached}
+use Rattle.ceil_runtime.proofs.Processed.{changed-at-work, still-reached}
 use Rattle.ceil_runtime.proofs.Effected.{act-step, nobody-run, nobody-sound, end-run, end-sound, ended-rests, finish-differs, finish-run}
 use Rattle.ceil_runtime.proofs.Effected.{finish-sound, going-differs, going-sound, is-ready, served-differs, served-run, served-sound, wait-sound}
 use Rattle.ceil_runtime.proofs.Effected.{waits-now}
 use Rattle.ceil_runtime.proofs.Released.{going-readiness, released-readiness}
-use Rattle.task_runtime.proofs.Shared.AtWork.{nests-ended}
+use Rattle.linked_task.proofs.Shared.AtWork.{nests-ended}
 
 -- a processor whose task at a place had effects, with these tasks, lists and data now
 abbrev pub acted_to : Snapshot → ℕ → Option ℕ → List Task → Queues → List Variables → Snapshot
@@ -65,7 +67,7 @@ module _ (s : Snapshot) (i : ℕ) (whole : IsWholeAt (acting s i)) (running : Op
     (stores' : List Variables) (told : Told) (n : states.State) (runs : run (system_at s) 1 (effect_state s i) ≡ (n, told_of told))
     (differ : DifferInOrders n (state_at (acted_to s i running tasks' queues' stores')))
     (same : system_by s.until s.costs s.units tasks' ≡ system_at s)
-    (sound' : IsSound s.until s.time (Effects running) (Some i) s.units tasks' queues')
+    (sound' : IsSound s.until s.time (Effects running) (Some i) s.units tasks' queues') (at_work' : AreAtWork s.code tasks')
     (ends : Ends told (acted_to s i running tasks' queues' stores')) (of : AreOfTask s.tasks told)
     (less : ran_effort (most_ends (system_by s.until s.costs s.units tasks')) (map task_of tasks') (Some i)
     < ran_effort (most_ends (system_at s)) (map task_of s.tasks) (Some i))
@@ -81,7 +83,7 @@ module _ (s : Snapshot) (i : ℕ) (whole : IsWholeAt (acting s i)) (running : Op
 
   pub effect-step : Steps (acting s i) told (acted_to s i running tasks' queues' stores')
   effect-step = record {
-    whole = λ on. record { sound = sound'; callees = whole.callees; reached = still-reached whole effect-follows };
+    whole = λ on. record { sound = sound'; at_work = at_work'; reached = still-reached whole effect-follows };
     follows = effect-follows;
     ends = ends;
     nears = near told;
@@ -106,7 +108,7 @@ fewer-after s i whole tasks' t t' f c due falls =
 
 -- a piece that leaves the task ready, and says at most two events
 module _ (s : Snapshot) (i : ℕ) (whole : IsWholeAt (acting s i)) (t t' : Task) (here : slice_get s.tasks i ≡ Some t) (due : t.left ≡ 0) (act : Act)
-    (d : HasDone s.costs act t t') (nests : IsNested (task_of t) → IsNested (task_of t')) where
+    (d : HasDone s.code s.costs act t t') (nests : IsNested (task_of t) → IsNested (task_of t')) where
   module _ (does : task_of t' ≡ going s.costs d.acts.vars d.acts.pieces (task_of t)) (told : Told)
       (says : takes_effect (system_at s) i (task_of t) (deed (act_of act) d.acts.vars d.acts.pieces) (effect_state s i)
       ≡ (record (effect_state s i) { tasks = change i (going s.costs d.acts.vars d.acts.pieces) (map task_of s.tasks) }, told_of told))
@@ -134,6 +136,7 @@ module _ (s : Snapshot) (i : ℕ) (whole : IsWholeAt (acting s i)) (t t' : Task)
         (changed-system s.tasks going_tasks i t t' _ going_changed s.until s.costs s.units)
         (going-sound s.stores s.arrivals s.until s.time s.costs s.units i s.tasks s.queues whole.sound t t' here due act d.acts going_tasks
         going_changed d.works nests)
+        (changed-at-work s.tasks going_tasks i t t' _ going_changed s.code whole.at_work d.at_work)
         ends of less (omega (arith, less, sleep, same, few))
 
 -- whether a task is released at once, by its control structure
@@ -142,7 +145,7 @@ served_by gate next r = is_waiting (readiness_of r next) && gate
 
 -- the end of an activation
 module _ (s : Snapshot) (i : ℕ) (whole : IsWholeAt (acting s i)) (t t' : Task) (here : slice_get s.tasks i ≡ Some t) (due : t.left ≡ 0)
-    (d : HasDone s.costs Finish t t') where
+    (d : HasDone s.code s.costs Finish t t') where
   finish-nests : IsNested (task_of t) → IsNested (task_of t')
   finish-nests = nests-ended t t' d.acts.vars d.acts.after d.inside
 
@@ -168,6 +171,9 @@ module _ (s : Snapshot) (i : ℕ) (whole : IsWholeAt (acting s i)) (t t' : Task)
     finish_state = record (effect_state s i) { tasks = change i (ended d.acts.vars) (map task_of s.tasks) }
 
     -- it is released at some later time
+    finish-at-work : AreAtWork s.code tasks'
+    finish-at-work = changed-at-work s.tasks tasks' i t t' _ finish-changed s.code whole.at_work d.at_work
+
     finish-step : (q' : Queues) → q'.ready ≡ s.queues.ready → (is_waiting (task_of t').readiness && (task_of t').gate.open') ≡ false
         → IsSound s.until s.time (Effects None) (Some i) s.units tasks' q'
         → Steps (acting s i) (One ended-told) (acted_to s i None tasks' q' s.stores)
@@ -181,7 +187,7 @@ module _ (s : Snapshot) (i : ℕ) (whole : IsWholeAt (acting s i)) (t t' : Task)
         (subst (λ (es : List Entry). DifferInOrders finish_state (state_by s.stores s.arrivals s.time (Effects None) (Some i) false tasks' es))
         (sym ready_is)
         (finish-differs s.stores s.arrivals s.until s.time s.costs s.units i s.tasks s.queues whole.sound t t' here due d.acts tasks' finish-changed))
-        (changed-system s.tasks tasks' i t t' _ finish-changed s.until s.costs s.units) sound' (tt, refl) first-of less
+        (changed-system s.tasks tasks' i t t' _ finish-changed s.until s.costs s.units) sound' finish-at-work (tt, refl) first-of less
         (omega (arith, less, sleep, one, awake))
 
     -- it sleeps
@@ -214,7 +220,7 @@ module _ (s : Snapshot) (i : ℕ) (whole : IsWholeAt (acting s i)) (t t' : Task)
 
     -- it is released at once
     module _ (t'' : Task) (task : task_of t'' ≡ released s.costs (task_of t')) (thread' : t''.progress.stack.thread
-        ≡ t'.progress.stack.thread) (works' : t''.works ≤ t'.works + min t''.left 1) (some : 0 < t''.left)
+        ≡ t'.progress.stack.thread) (works' : t''.works ≤ t'.works + min t''.left 1) (some : 0 < t''.left) (at'' : IsAtWork s.code t''.progress)
         (not : t'.readiness ≡ readies.Asleep → ⊥) (is_open : t'.gate.«open» ≡ true)
         (q' : Queues) (links_are : q' ≡ record s.queues { ready = at_tail (i, (task_of t'').active) s.queues.ready }) where
       abbrev served_tasks : List Task
@@ -259,6 +265,7 @@ module _ (s : Snapshot) (i : ℕ) (whole : IsWholeAt (acting s i)) (t t' : Task)
           system_is
           (served-sound s.stores s.arrivals s.until s.time s.costs s.units i s.tasks s.queues whole.sound t t' here due d.acts tasks' finish-changed
           t'' served_tasks now not q' links_are d.works works' some finish-nests)
+          (changed-at-work tasks' served_tasks i t' t'' _ now s.code finish-at-work at'')
           (tt, tt, refl) (first-of, first-of) less (omega (arith, less, sleep, sleep', rests, ready, awake))
         where
           nothing : {n : ℕ} → 0 < n → n ≡ 0 → ⊥
@@ -276,7 +283,7 @@ end-step s i whole t here idle q' is =
     record {
       whole = λ on. record {
         sound = end-sound s.until s.time s.units i (Some i) s.tasks s.queues whole.sound t here q' is;
-        callees = whole.callees;
+        at_work = whole.at_work;
         reached = still-reached whole f;
       };
       follows = f;
@@ -296,7 +303,7 @@ nobody-step s whole =
     record {
       whole = λ on. record {
         sound = nobody-sound s.until s.time s.units s.ran s.tasks s.queues whole.sound;
-        callees = whole.callees;
+        at_work = whole.at_work;
         reached = still-reached whole f;
       };
       follows = f;

@@ -18,7 +18,7 @@ snapshot_of m = record {
   until = m.until;
   costs = m.costs;
   units = m.units.now;
-  callees = m.callees;
+  code = m.code;
   stores = stores_of m;
   arrivals = m.arrivals.now;
   time = m.time;
@@ -33,7 +33,7 @@ snapshot_of m = record {
 abbrev pub running_of : Machine → Running
 running_of m = running_at (snapshot_of m)
 
--- a processor whose lists are those of its tasks, and whose calls lead to what those of its units do
+-- a processor whose lists are those of its tasks, and whose tasks are at work over its code
 abbrev pub IsWhole : Machine → Type 0
 IsWhole m = IsWholeAt (snapshot_of m)
 

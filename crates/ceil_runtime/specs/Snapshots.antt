@@ -8,10 +8,10 @@ use Rattle.link_queue.specs.Queues.{Queues}
 use Rattle.machine.specs.Systems.{System}
 use Rattle.machine.specs.States.{State}
 use Rattle.machine.specs.Meanings.{Running}
-use Rattle.task_runtime.specs.Called.{AreCalleesOf}
-use Rattle.task_runtime.specs.declared.callees.Callees.{Callees}
-use Rattle.task_runtime.specs.declared.task.Task.{Task}
-use Rattle.ceil_runtime.specs.Processing.{IsSound, state_by, system_by}
+use Rattle.linker.specs.declared.program.LinkedUnits.{LinkedUnits}
+use Rattle.linked_task.specs.Sounds.{IsAtWork}
+use Rattle.linked_task.specs.declared.task.Task.{Task}
+use Rattle.ceil_runtime.specs.Processing.{AllTasks, IsSound, state_by, system_by}
 use Rattle.ceil_runtime.specs.Reaching.{IsReached}
 use Rattle.ceil_runtime.specs.declared.processor.Phase.{Phase}
 
@@ -20,7 +20,7 @@ pub record Snapshot : Type 0 where
   pub until : ℕ
   pub costs : Costs
   pub units : List trees.Unit
-  pub callees : Callees
+  pub code : LinkedUnits
   pub stores : List Variables
   pub arrivals : List Arrival
   pub time : ℕ
@@ -41,8 +41,12 @@ state_at s = state_by s.stores s.arrivals s.time s.phase s.ran s.stopped s.tasks
 abbrev pub running_at : Snapshot → Running
 running_at s = record { system = system_at s; state = state_at s }
 
--- its lists are those of its tasks, its calls lead to what those of its units do, and it stands where a run comes to
+-- each task is at work over its code
+abbrev pub AreAtWork : LinkedUnits → List Task → Type 0
+AreAtWork c tasks = AllTasks (λ t. IsAtWork c t.progress) tasks
+
+-- its lists are those of its tasks, its tasks are at work over its code, and it stands where a run comes to
 pub record IsWholeAt (s : Snapshot) : Type 0 where
   pub sound : IsSound s.until s.time s.phase s.ran s.units s.tasks s.queues
-  pub callees : AreCalleesOf s.callees s.units
+  pub at_work : AreAtWork s.code s.tasks
   pub reached : IsReached (system_at s) (state_at s)

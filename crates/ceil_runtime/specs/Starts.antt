@@ -12,12 +12,14 @@ use Rattle.machine.specs.States.{first_task, first_time, opening}
 use Rattle.law_dispatching.specs.Queueing.{AreSleeping}
 use Rattle.ceil_runtime.specs.Processing.{AllTasks, IsKept}
 use Rattle.task_runtime.specs.Libraries.{libraries_from, objects_from}
-use Rattle.task_runtime.specs.Works.{task_of}
-use Rattle.task_runtime.specs.Written.{CanRun, durations_of, thread_of, timing_of}
+use Rattle.linked_task.specs.Works.{task_of}
+use Rattle.task_runtime.specs.Written.{durations_of, thread_of, timing_of}
 use Rattle.task_runtime.specs.declared.thread.Thread.{Thread}
+use Rattle.linker.specs.declared.program.LinkedUnits.{LinkedUnits}
+use Rattle.linked_task.specs.Sounds.{CanWork, IsAtWork}
 use Rattle.task_runtime.specs.declared.thread.Timing.{Timing}
 use Rattle.task_runtime.specs.declared.thread.Timing.TheVariants.{Periodic, Requested}
-use Rattle.task_runtime.specs.declared.task.Task.{Task}
+use Rattle.linked_task.specs.declared.task.Task.{Task}
 
 -- what runs, where these are the tasks
 abbrev pub system_for : ℕ → Costs → List units.Unit → List Thread → System
@@ -29,9 +31,9 @@ system_for until costs us threads = record {
   threads = map thread_of threads;
 }
 
--- a task of these units that can be run
+-- a task of these units that can run over linked code
 pub record CanStart (us : List units.Unit) (t : Thread) : Type 0 where
-  pub runs : CanRun t
+  pub works : CanWork t
   pub units : t.units.now ≡ us
   pub offset : first_time (timing_of t.timing) < 2 ^ 32
   pub long : has_nothing (durations_of t) ≡ false
@@ -47,9 +49,10 @@ first_slept (Periodic offset period) task q = record q { asleep = in_time (task,
 first_slept (Requested op ceiling separation jitter external) task q = q
 
 -- tasks that are open so far
-pub record AreOpen (until : ℕ) (us : List units.Unit) (threads : List Thread) (tasks : List Task) (q : Queues) : Type 0 where
+pub record AreOpen (until : ℕ) (us : List units.Unit) (code : LinkedUnits) (threads : List Thread) (tasks : List Task) (q : Queues) : Type 0 where
   pub tasks_are : map task_of tasks ≡ map first_task (map thread_of threads)
   pub threads_are : map (λ t. t.progress.stack.thread) tasks ≡ threads
   pub ready : q.ready ≡ []
   pub sleeping : AreSleeping (map task_of tasks) 0 q.asleep
   pub kept : AllTasks (IsKept until 0 us) tasks
+  pub at_work : AllTasks (λ t. IsAtWork code t.progress) tasks

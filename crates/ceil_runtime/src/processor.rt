@@ -6,7 +6,7 @@ ghost use Rattle.seq_tree.specs.Lists.{first_where};
 ghost use Rattle.law_dispatching.specs.Jumping.{NoArrival};
 ghost use Rattle.ceil_runtime.specs.Starts.{first_slept};
 ghost use Rattle.ceil_runtime.specs.Turns.{last_turn};
-ghost use Rattle.task_runtime.specs.Works.{task_of};
+ghost use Rattle.linked_task.specs.Works.{task_of};
 ghost use Rattle.ceil_runtime.specs.Objects.{AreObjectsOf};
 ghost use Rattle.ceil_runtime.specs.Processing.{IsBelow, IsWithin};
 
@@ -17,11 +17,11 @@ use crate::threads::threads_in;
 use ada_tree::{AdaProgram, Unit};
 use arrivals_tree::{Arrival, Arrivals};
 use link_queue::Links;
+use linked_task::{Deed, Entry, Piece, Task};
+use linker::{LinkedUnits, link_units};
 use seq_tree::{Costs, NoMemory};
 use std::alloc::Global;
-use task_runtime::{
-    Act, Callees, Deed, Entry, Piece, Readiness, Section, Task, Thread, Timing, ceiling_of,
-};
+use task_runtime::{Act, Readiness, Section, Thread, Timing, ceiling_of, room_of};
 use trace_tree::Event;
 
 /// What an advance of the machine came to.
@@ -228,8 +228,8 @@ pub struct Machine<'a> {
     // The arrivals left.
     arrivals: &'a [Arrival],
     units: &'a [Unit],
-    // What each call of the units leads to.
-    callees: Callees<'a>,
+    // The units as code, which the tasks run.
+    code: LinkedUnits<'a>,
     costs: Costs,
     until: u64,
     time: u64,
@@ -262,15 +262,15 @@ impl<'a> Machine<'a> {
     ghost use Rattle.trace_tree.specs.Placed.{IsPlaced};
     ghost use Rattle.ceil_runtime.specs.Processing.{HasNoPiece, HasPiece, IsDue};
     ghost use Rattle.trace_tree.specs.declared.event.Event.TheVariants as event;
-    ghost use Rattle.task_runtime.specs.declared.task.Task.{Task};
+    ghost use Rattle.linked_task.specs.declared.task.Task.{Task};
     ghost use Rattle.std.specs.Prelude.{slice_get};
     ghost use Rattle.ceil_runtime.specs.Shown.{IsSettled, IsWhole, running_of, snapshot_of};
-    ghost use Rattle.ceil_runtime.specs.Snapshots.{IsWholeAt};
+    ghost use Rattle.ceil_runtime.specs.Snapshots.{AreAtWork, IsWholeAt};
     ghost use Rattle.law_ceilings.specs.Premises.{MayExclude};
     ghost use Rattle.ceil_runtime.specs.Acted.{HasActed, IsActing, IsDoing, with_tasks};
     ghost use Rattle.ceil_runtime.specs.Alone.{GoesAlone, IsAlone};
-    ghost use Rattle.task_runtime.specs.Doing.{StaysOutside, is_silent};
-    ghost use Rattle.ceil_runtime.specs.Stepping.{HasStopped, IsStep, Steps, before_arrival, steps_left};
+    ghost use Rattle.linked_task.specs.Doings.{StaysOutside};
+    ghost use Rattle.ceil_runtime.specs.Stepping.{HasStopped, IsStep, Steps, before_arrival};
 
     /// The opening of a program under arrivals that are accepted for it. The one error is want of memory: a failed allocation, and two
     /// limits that are told as one. A protected object may have fewer than 2^32 operations, since an event tells their places in 32
@@ -323,11 +323,12 @@ impl<'a> Machine<'a> {
             return Err(NoMemory);
         };
         let objects = objects_in(alloc, units)?;
-        let callees = Callees::of_units(alloc, units)?;
+        let code = link_units(alloc, units)?;
         let mut tasks = Vec::with_capacity(alloc, threads.len())?;
         let mut task: u32 = 0;
         'threads: for thread in threads {
-            let fresh = Task::new(alloc, *thread)?;
+            let room = room_of(*thread).ok_or(NoMemory)?;
+            let fresh = Task::new(alloc, &code, *thread, code.tasks[task as usize], room)?;
             tasks.push_reserved(fresh);
             sleep_first(&mut links, task, thread.timing);
             task += 1;
@@ -338,7 +339,7 @@ impl<'a> Machine<'a> {
             links,
             arrivals,
             units,
-            callees,
+            code,
             costs,
             until,
             time: 0,
@@ -424,7 +425,7 @@ impl<'a> Machine<'a> {
         let Readiness::Waiting = asked.readiness else {
             return Told::One(arrived);
         };
-        asked.release(&self.costs);
+        asked.release(&self.costs, &self.code);
         self.links.push_tail(task, asked.active);
         Told::Two(
             arrived,
@@ -465,7 +466,7 @@ impl<'a> Machine<'a> {
         };
         let released = &mut self.tasks[task as usize];
         let value = released.gate.value;
-        released.release(&self.costs);
+        released.release(&self.costs, &self.code);
         self.links.push_tail(task, released.active);
         Told::One(Event::Release {
             time: self.time,
@@ -475,8 +476,9 @@ impl<'a> Machine<'a> {
     }
 
     /// The piece of a task, where its ticks are used.
-    fn due(&self, task: u32) -> Option<Piece<'a>>
+    fn due(&self, task: u32) -> Option<Piece>
         requires known { task < length self.now.tasks.items }
+        requires at_work { AreAtWork self.now.code self.now.tasks.items }
         ensures { IsDue self.now.tasks.items task result }
     {
         let active = &self.tasks[task as usize];
@@ -511,45 +513,15 @@ impl<'a> Machine<'a> {
         first_arrival(self.arrivals, self.time, most)
     }
 
-    /// Lets the running task use what is left of its piece at once, where that is over by the time up to which it goes on alone.
-    fn pass(&mut self, task: u32, limit: u64)
-        requires acting { IsActing (snapshot_of self.old) task }
-        requires alone { IsAlone (snapshot_of self.old) task limit }
-        ensures { GoesAlone (snapshot_of self.old) (snapshot_of self.new) task limit }
-    {
-        let ticks = u64::from(self.tasks[task as usize].left);
-        if ticks == 0 {
-            return;
-        }
-        let room = limit - self.time;
-        if room < ticks {
-            return;
-        }
-        self.time += ticks;
-        self.tasks[task as usize].use_ticks(ticks);
-    }
-
     /// The effect of a piece on its own task, where it neither enters a protected object nor leaves one.
-    fn own_effect(&mut self, task: u32, piece: Piece<'a>) -> Act
+    fn own_effect(&mut self, task: u32, piece: Piece) -> Act
         requires acting { IsActing (snapshot_of self.old) task }
         requires piece { HasPiece self.old.tasks.items task piece }
-        requires outside { (t : Task) → slice_get self.old.tasks.items task ≡ Some t → StaysOutside (system_of t.progress.stack.thread) piece }
+        requires outside { (t : Task) → slice_get self.old.tasks.items task ≡ Some t → StaysOutside self.old.code piece }
         ensures acted { (t : Task) × (t' : Task) × HasActed self.old.tasks.items (snapshot_of self.new) task result t t' }
         ensures before { snapshot_of self.old ≡ with_tasks self.old.tasks.items (snapshot_of self.new) }
     {
-        self.tasks[task as usize].act(&self.costs, &self.callees, piece)
-    }
-
-    /// The effect of a piece of the running task that is nothing to others.
-    fn act_alone(&mut self, task: u32, piece: Piece<'a>)
-        requires acting { IsActing (snapshot_of self.old) task }
-        requires piece { HasPiece self.old.tasks.items task piece }
-        requires silent { is_silent piece ≡ true }
-        ensures { (limit : ℕ) → IsAlone (snapshot_of self.old) task limit
-            → GoesAlone (snapshot_of self.old) (snapshot_of self.new) task limit
-            × (steps_left (snapshot_of self.new) < steps_left (snapshot_of self.old)) }
-    {
-        self.own_effect(task, piece);
+        self.tasks[task as usize].act(&self.costs, &self.code, piece)
     }
 
     /// Goes on through pieces of the running task that are nothing to others, up to an instant at which something else may be due: no
@@ -559,17 +531,8 @@ impl<'a> Machine<'a> {
         ensures { (limit : ℕ) × GoesAlone (snapshot_of self.old) (snapshot_of self.new) task limit }
     {
         let limit = self.alone_until(task);
-        'pieces: loop {
-            self.pass(task, limit);
-            let Some(piece) = self.due(task) else {
-                return;
-            };
-            if piece.is_silent() {
-                self.act_alone(task, piece);
-            } else {
-                return;
-            }
-        }
+        let active = &mut self.tasks[task as usize];
+        self.time = active.go_alone(&self.costs, &self.code, self.time, limit);
     }
 
     /// Effects: that of the piece of the task that used the tick before, where its ticks are used.
@@ -592,12 +555,12 @@ impl<'a> Machine<'a> {
     }
 
     /// The effect of the piece of a task whose ticks are used.
-    fn effect(&mut self, task: u32, piece: Piece<'a>) -> Told
+    fn effect(&mut self, task: u32, piece: Piece) -> Told
         requires acting { IsActing (snapshot_of self.old) task }
         requires piece { HasPiece self.old.tasks.items task piece }
         ensures { IsStep self.old result self.new }
     {
-        match self.tasks[task as usize].deed(&self.callees, piece) {
+        match self.tasks[task as usize].deed(&self.code, piece) {
             Deed::Own => self.act(task, piece),
             Deed::Enter(entry) => self.enter(task, piece, entry),
             Deed::Leave(entry) => self.leave(task, piece, entry),
@@ -625,7 +588,7 @@ impl<'a> Machine<'a> {
     }
 
     /// The entry into a protected object, whose data the task takes, unless its active priority is above the ceiling.
-    fn enter(&mut self, task: u32, piece: Piece<'a>, entry: Entry<'a>) -> Told
+    fn enter(&mut self, task: u32, piece: Piece, entry: Entry) -> Told
         requires does { (t : Task) × IsDoing (snapshot_of self.old) task piece (Deed.Enter entry) t }
         ensures { IsStep self.old result self.new }
     {
@@ -635,11 +598,10 @@ impl<'a> Machine<'a> {
         if self.tasks[task as usize].is_above(ceiling) {
             return self.stop(task, unit, ceiling);
         }
-        let object = &mut self.objects[entry.object];
         // No task is inside, so that the data are all at home.
-        prove!(object.data.len() == object.written.len());
+        let object = &mut self.objects[entry.object];
         let caller = &mut self.tasks[task as usize];
-        let values = caller.enter(&self.costs, entry, &mut object.data);
+        let values = caller.enter(&self.costs, &self.code, entry, &mut object.data);
         caller.go_inside(Section::Object(entry.object), ceiling);
         Told::One(Event::Enter {
             time: self.time,
@@ -651,13 +613,13 @@ impl<'a> Machine<'a> {
     }
 
     /// The exit from a protected object, which takes its data back.
-    fn leave(&mut self, task: u32, piece: Piece<'a>, entry: Entry<'a>) -> Told
+    fn leave(&mut self, task: u32, piece: Piece, entry: Entry) -> Told
         requires does { (t : Task) × IsDoing (snapshot_of self.old) task piece (Deed.Leave entry) t }
         ensures { IsStep self.old result self.new }
     {
         let object = &mut self.objects[entry.object];
         let caller = &mut self.tasks[task as usize];
-        let values = caller.leave(&self.costs, entry, &mut object.data);
+        let values = caller.leave(&self.costs, &self.code, entry, &mut object.data);
         caller.go_outside();
         Told::One(Event::Leave {
             time: self.time,
@@ -669,7 +631,7 @@ impl<'a> Machine<'a> {
     }
 
     /// The entry into the control structure of a task, unless the active priority of the one that requests it is above the ceiling.
-    fn ask(&mut self, task: u32, piece: Piece<'a>, target: usize) -> Told
+    fn ask(&mut self, task: u32, piece: Piece, target: usize) -> Told
         requires does { (t : Task) × IsDoing (snapshot_of self.old) task piece (Deed.Ask target) t }
         ensures { IsStep self.old result self.new }
     {
@@ -685,7 +647,7 @@ impl<'a> Machine<'a> {
     }
 
     /// The effect of a piece that neither enters a section nor leaves a protected object.
-    fn act(&mut self, task: u32, piece: Piece<'a>) -> Told
+    fn act(&mut self, task: u32, piece: Piece) -> Told
         requires does { (t : Task) × IsDoing (snapshot_of self.old) task piece Deed.Own t }
         ensures { IsStep self.old result self.new }
     {
@@ -737,7 +699,7 @@ impl<'a> Machine<'a> {
             return Told::One(request);
         }
         let kept = asked.gate.value;
-        asked.release(&self.costs);
+        asked.release(&self.costs, &self.code);
         self.links.push_tail(target as u32, asked.active);
         Told::Two(
             request,
@@ -772,7 +734,7 @@ impl<'a> Machine<'a> {
         if !active.gate.open {
             return Told::One(ended);
         }
-        active.release(&self.costs);
+        active.release(&self.costs, &self.code);
         self.links.push_tail(task, active.active);
         Told::Two(
             ended,

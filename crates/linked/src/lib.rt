@@ -1,4 +1,4 @@
-//! Linked code: expressions whose variables are slots, and their values. No code runs over it yet.
+//! Linked code: expressions whose variables are slots, and their values.
 //!
 //! It stands on `seq_tree`, which defines the value of an expression over named variables, and on `seq_eval` for tables of names and the
 //! values of operators. `link_expr` writes the nodes of an expression, with the slot of each variable that a table gives; `value_at` carries

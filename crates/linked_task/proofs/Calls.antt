@@ -33,7 +33,7 @@ use Rattle.linked_task.specs.Bodies.{ended, first_body, into, left_at, scope_at,
 use Rattle.linked_task.specs.Doings.{owner_at}
 use Rattle.linked_task.specs.Lefts.{running_of}
 use Rattle.linked_task.specs.Settling.{IsAmid}
-use Rattle.linked_task.specs.Sounds.{IsBodyOf, IsCall, IsSound, IsStacked, IsTidy, spot_of}
+use Rattle.linked_task.specs.Sounds.{IsBodyOf, IsCall, IsSound, IsStacked, IsTidy}
 use Rattle.linked_task.specs.declared.piece.Frame.{Frame}
 use Rattle.linked_task.specs.declared.stack.Stack.{Stack}
 use Rattle.linked_task.proofs.Arrivals.{sound_running}
@@ -209,7 +209,7 @@ module _ (c : LinkedUnits) (s : Stack) (h : IsStacked c s) where
     pub values : ValuesStand t (scope_at r false at) first (values_in body.op.sig.params actuals)
     pub stores : TargetsStand t (scope_at r false at) (first + length (values_in body.op.sig.params actuals)) (targets body.op.sig.params actuals)
     pub many : outs ≡ length (targets body.op.sig.params actuals)
-    pub ready : IsReady (spot_of y r.chain) (op_name unit op) body.op
+    pub ready : IsReady y r.chain (op_name unit op) body.op
     pub tidy : IsTidy y body
     pub start : ℕ
     pub starts : slice_get c.starts.items place ≡ Some start
@@ -247,7 +247,7 @@ module _ (c : LinkedUnits) (s : Stack) (h : IsStacked c s) where
         stores = subst (λ ps. TargetsStand t (scope_at r false at) (first + length (values_in ps actuals)) (targets ps actuals)) led.params'
             says.stores;
         many = says.many ∙ ap (λ ps. length (targets ps actuals)) led.params';
-        ready = h.works.runs.calls (spot_of y r.chain) (op_name unit op) led.body.op refl (op_is (callee y unit op) led.body led.is_body) head.0;
+        ready = h.works.runs.calls r.chain (op_name unit op) led.body.op (op_is (callee y unit op) led.body led.is_body) head.0;
         tidy = h.works.tidy unit op led.body led.is_body;
         start = stand.0;
         starts = stand.1;

@@ -9,7 +9,7 @@ use Rattle.law_flat_code.specs.Codes.{block_size, size}
 use Rattle.law_flat_code.specs.Withins.{among, inside, turn_end, within}
 use Rattle.linked_task.proofs.Orders.{by_choice}
 use Rattle.task_runtime.specs.Effort.{ends_among, sections_among}
-use Rattle.task_runtime.specs.Fitting.{FitsBlock, FitsBranches, FitsIf, FitsStatement, Spot, above, in_loop}
+use Rattle.task_runtime.specs.Fitting.{FitsBlock, FitsBranches, FitsIf, FitsStatement, Spot, in_branch, in_loop}
 use Rattle.task_runtime.proofs.Shared.Sections.{sections-pieces}
 
 ends_turns : (b : Bool) (name : Name) (at last : ℕ) (body : Statements) (rest : List Piece)
@@ -84,17 +84,17 @@ mutual
   ends_if s (Else block) n open' depth turn rest h = absurd h
   ends_if s (When condition block others) n open' depth turn rest h =
       ends_when s (Testing condition block others) (nat_lt 0 n) (nat_lt (n - 1) (block_size block)) (nat_lt (n - 1) (suc (block_size block))) _ _ rest
-      refl h.0 (ends_within (above s) block (n - 1) open' depth turn rest h.1)
+      refl h.0 (ends_within (in_branch s) block (n - 1) open' depth turn rest h.1)
       (ends_others s others (n - 1 - suc (block_size block)) open' depth turn rest h.2)
 
   ends_others : (s : Spot) (bs : Branches) (n : ℕ) (open' : Bool) (depth : ℕ) (turn : ℕ → ℕ) (rest : List Piece) → FitsBranches s bs
       → ends_among (among bs n open' depth turn rest) ≤ s.room + ends_among rest
   ends_others s Nothing n open' depth turn rest h = omega arith
   ends_others s (Else block) n open' depth turn rest h =
-      let here = ends_within (above s) block n open' depth turn rest h.1 in omega (arith, here, h.0)
+      let here = ends_within (in_branch s) block n open' depth turn rest h.1 in omega (arith, here, h.0)
   ends_others s (When condition block others) n open' depth turn rest h =
       ends_when s (Testing condition block others) (nat_lt 0 n) (nat_lt (n - 1) (block_size block)) (nat_lt (n - 1) (suc (block_size block))) _ _ rest
-      refl h.0 (ends_within (above s) block (n - 1) open' depth turn rest h.1)
+      refl h.0 (ends_within (in_branch s) block (n - 1) open' depth turn rest h.1)
       (ends_others s others (n - 1 - suc (block_size block)) open' depth turn rest h.2)
 
 -- no section ends inside a body

@@ -33,7 +33,7 @@ use Rattle.linked_task.specs.Handing.{TargetsAt, target_slots}
 use Rattle.linked_task.specs.Lefts.{running_of, vars_left}
 use Rattle.linked_task.specs.Settling.{IsAmid}
 use Rattle.linked_task.specs.Slotted.{Slotted}
-use Rattle.linked_task.specs.Sounds.{IsAtWork, IsBodyOf, IsCall, IsStacked, IsTidy, owner_by, owner_of, spot_of}
+use Rattle.linked_task.specs.Sounds.{IsAtWork, IsBodyOf, IsCall, IsStacked, IsTidy, owner_by, owner_of}
 use Rattle.linked_task.specs.declared.piece.Frame.{Frame}
 use Rattle.linked_task.specs.declared.progress.Progress.{Progress}
 use Rattle.linked_task.specs.declared.stack.Stack.{Stack}
@@ -130,10 +130,9 @@ module _ (c : LinkedUnits) (s : Stack) (h : IsStacked c s) (fs : List Frame) (f 
       head_at y h.linked.leads t (last_by ins.Finish fs) (room_by (reserve s.thread) fs) outer
       (sound_here y h.linked.leads t ins.Finish (reserve s.thread) base fs pop.before pop.sound) true f.at pop.slots
 
-  ready : IsReady (spot_of y outer.chain) (op_name pop.call.unit pop.call.op) b.op
+  ready : IsReady y outer.chain (op_name pop.call.unit pop.call.op) b.op
   ready =
-      h.works.runs.calls (spot_of y outer.chain) (op_name pop.call.unit pop.call.op) b.op refl
-      (op_is (callee y pop.call.unit pop.call.op) b pop.call.body)
+      h.works.runs.calls outer.chain (op_name pop.call.unit pop.call.op) b.op (op_is (callee y pop.call.unit pop.call.op) b pop.call.body)
       (subst (Head y outer.chain (length outer.names) (scope_at outer true f.at)) pop.call.calls known).0
 
   pub few_out : length b.op.sig.params ≤ 8

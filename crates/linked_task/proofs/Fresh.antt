@@ -1,6 +1,5 @@
 -- A task before its first activation, and one whose activation begins.
-use Rattle.std.proofs.Common.{◌≡◌, inl, ◌≤◌, ℕ, suc, ◌+◌, ◌-◌, true, false, [], ◌∷◌, ◌++◌, Option, None, length, map, refl, ap, sym}
-use Rattle.std.proofs.Common.{subst, ◌∙◌, arith}
+use Rattle.std.proofs.Common.{◌≡◌, inl, ◌≤◌, ℕ, ◌+◌, true, [], ◌∷◌, ◌++◌, Option, None, length, map, refl, ap, sym, subst, ◌∙◌, arith}
 use Rattle.std.specs.Prelude.{vec_capacity}
 use Rattle.std.proofs.lemmas.List.{length-append, length-map}
 use Rattle.std.proofs.lemmas.Option.{same_Some}
@@ -19,7 +18,6 @@ use Rattle.linker.specs.declared.code.Ins.TheVariants as ins
 use Rattle.linker.specs.declared.program.LinkedUnits.{LinkedUnits}
 use Rattle.linker.proofs.Shared.Starts.{task_stands}
 use Rattle.task_runtime.specs.Effort as effort
-use Rattle.task_runtime.specs.Fitting.{FitsBlock}
 use Rattle.task_runtime.specs.Written as written
 use Rattle.task_runtime.specs.Written.{block_of_thread, data_names, reserve, system_of, thread_of, timing_of}
 use Rattle.task_runtime.specs.declared.thread.Thread.{Thread}
@@ -60,8 +58,7 @@ module _ (c : LinkedUnits) (s : Stack) (works : CanWork s.thread) (linked : AreL
   first_sound = record {
     stands = stands.0;
     ends = stands.1;
-    fits = subst (λ k. FitsBlock (record { system = y; chain = []; inside = false; room = k }) (block_of_thread s.thread))
-        (let few : (n : ℕ) → n + 194 - suc n - 1 ≡ 192 = (λ n. omega arith) in few (length (written.param_names s.thread))) works.runs.block;
+    fits = works.runs.block;
     full = works.full;
     ending = inl ([], refl);
     room' = (let e = names_count s.thread in omega (arith, e));

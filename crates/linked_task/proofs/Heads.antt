@@ -14,7 +14,7 @@ use Rattle.machine.specs.Pieces.{Piece, Calling, Leaving, Turned, Turning, Worki
 use Rattle.law_flat_code.specs.Codes.{block_size, in_turn, next_slot, size}
 use Rattle.law_flat_code.specs.Withins.{among, inside, scope_among, scope_inside, scope_within, turn_end, within}
 use Rattle.task_runtime.specs.Callable.{IsClear, op_name}
-use Rattle.task_runtime.specs.Fitting.{FitsBlock, FitsBranches, FitsIf, FitsStatement, Spot, above, in_loop}
+use Rattle.task_runtime.specs.Fitting.{FitsBlock, FitsBranches, FitsIf, FitsStatement, Spot, in_branch, in_loop, spot_of}
 use Rattle.linker.specs.Callees.{OpBody}
 use Rattle.linker.specs.Leads.{Leads}
 use Rattle.linker.specs.Scopes.{slots_of}
@@ -22,7 +22,7 @@ use Rattle.linker.specs.Standing.{Lists}
 use Rattle.linker.specs.declared.code.Ins.{Ins}
 use Rattle.linked_task.specs.Bodies.{Body, ended_by, left_at, scope_at, turn_at}
 use Rattle.linked_task.proofs.Orders.{by_both, by_choice, by_four}
-use Rattle.linked_task.specs.Sounds.{FullBlock, FullBranches, FullStatement, IsEnding, IsFull, IsSound, spot_of}
+use Rattle.linked_task.specs.Sounds.{FullBlock, FullBranches, FullStatement, IsEnding, IsFull, IsSound}
 
 few_when : (s : Spot) (scope : Variables) (b c d : Bool) (inner others : Variables) → 1 ≤ s.room
     → next_slot inner ≤ next_slot scope + (s.room - 1) → next_slot others ≤ next_slot scope + s.room
@@ -64,15 +64,15 @@ mutual
   few_if s (Else block) n open' scope h = absurd h
   few_if s (When condition block others) n open' scope h =
       few_when s scope (nat_lt 0 n) (nat_lt (n - 1) (block_size block)) (nat_lt (n - 1) (suc (block_size block))) _ _ h.0
-      (few_within (above s) block (n - 1) open' scope h.1) (few_among s others (n - 1 - suc (block_size block)) open' scope h.2)
+      (few_within (in_branch s) block (n - 1) open' scope h.1) (few_among s others (n - 1 - suc (block_size block)) open' scope h.2)
 
   few_among : (s : Spot) (bs : Branches) (n : ℕ) (open' : Bool) (scope : Variables) → FitsBranches s bs
       → next_slot (scope_among bs n open' scope) ≤ next_slot scope + s.room
   few_among s Nothing n open' scope h = omega arith
-  few_among s (Else block) n open' scope h = let k = few_within (above s) block n open' scope h.1 in omega (arith, k, h.0)
+  few_among s (Else block) n open' scope h = let k = few_within (in_branch s) block n open' scope h.1 in omega (arith, k, h.0)
   few_among s (When condition block others) n open' scope h =
       few_when s scope (nat_lt 0 n) (nat_lt (n - 1) (block_size block)) (nat_lt (n - 1) (suc (block_size block))) _ _ h.0
-      (few_within (above s) block (n - 1) open' scope h.1) (few_among s others (n - 1 - suc (block_size block)) open' scope h.2)
+      (few_within (in_branch s) block (n - 1) open' scope h.1) (few_among s others (n - 1 - suc (block_size block)) open' scope h.2)
 
 -- what is known of the first of pieces in a scope, where so many names are outside of all loops
 abbrev pub Head : System → List OpName → ℕ → Variables → List Piece → Type 0
@@ -161,7 +161,7 @@ module _ (y : System) (chain : List OpName) (outer : ℕ) where
     head_among_if s (Else block) n open' depth turn scope rest e f i le h k r = absurd h
     head_among_if s (When condition block others) n open' depth turn scope rest e f i le h k r =
         by_four P (nat_lt 0 n) (nat_lt (n - 1) (block_size block)) (nat_lt (n - 1) (suc (block_size block))) _ _ _ _ _ _ _ _
-        (head_within (above s) block (n - 1) open' depth turn scope rest e f i le h.1 k.0 r) r
+        (head_within (in_branch s) block (n - 1) open' depth turn scope rest e f i le h.1 k.0 r) r
         (head_among s others (n - 1 - suc (block_size block)) open' depth turn scope rest e f i le h.2 k.1 r) tt
 
     head_among : (s : Spot) (bs : Branches) (n : ℕ) (open' : Bool) (depth : ℕ) (turn : ℕ → ℕ) (scope : Variables) (rest : List Piece)
@@ -170,10 +170,10 @@ module _ (y : System) (chain : List OpName) (outer : ℕ) where
         → Head y chain outer (scope_among bs n open' scope) (among bs n open' depth turn rest)
     head_among s Nothing n open' depth turn scope rest e f i le h k r = r
     head_among s (Else block) n open' depth turn scope rest e f i le h k r =
-        head_within (above s) block n open' depth turn scope rest e f i le h.1 k r
+        head_within (in_branch s) block n open' depth turn scope rest e f i le h.1 k r
     head_among s (When condition block others) n open' depth turn scope rest e f i le h k r =
         by_four P (nat_lt 0 n) (nat_lt (n - 1) (block_size block)) (nat_lt (n - 1) (suc (block_size block))) _ _ _ _ _ _ _ _
-        (head_within (above s) block (n - 1) open' depth turn scope rest e f i le h.1 k.0 r) r
+        (head_within (in_branch s) block (n - 1) open' depth turn scope rest e f i le h.1 k.0 r) r
         (head_among s others (n - 1 - suc (block_size block)) open' depth turn scope rest e f i le h.2 k.1 r) tt
 
 -- behind a body is the end of a body or of an activation

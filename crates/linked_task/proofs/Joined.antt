@@ -1,25 +1,15 @@
 -- Durations of a task, joined from the lists that are handed in for it.
-use Rattle.std.specs.Prelude.{◌≡◌, ℕ, zero, suc, ◌+◌, ◌<◌, ◌≤◌, Bool, true, false, ◌||◌, ◌==◌, ◌++◌, List, [], ◌∷◌, length, drop, get_or, Some}
+use Rattle.std.specs.Prelude.{◌≡◌, ℕ, zero, suc, ◌+◌, ◌<◌, ◌≤◌, Bool, true, false, ◌==◌, ◌++◌, List, [], ◌∷◌, length, drop, get_or, Some}
 use Rattle.std.specs.Prelude.{slice_get, refl}
 use Rattle.std.proofs.Common.{sym, ◌∙◌, ap, subst, arith, drop-cons, add-one, append_assoc, append-nil}
 use Rattle.std.proofs.Math.ListN.{drop_of_length-le}
 use Rattle.std.proofs.lemmas.Bool.Decides.{nat_tests}
 use Rattle.std.proofs.lemmas.Option.{none-some, same_Some}
+use Rattle.std.proofs.lemmas.Bool.{or_parts}
 use Rattle.arrivals_tree.specs.Acceptance.{has_nothing}
 use Rattle.arrivals_tree.specs.Arriving.{durations}
 use Rattle.arrivals_tree.specs.declared.arrivals.WorkList.{WorkList}
 use Rattle.task_runtime.specs.Libraries.{handed}
-
-or_false : (a b : Bool) → (a || b) ≡ false → (a ≡ false) × (b ≡ false)
-or_false false false e = (refl, refl)
-or_false false true e = absurd (no_true e)
-  where
-    no_true : true ≡ false → ⊥
-    no_true h = cc
-or_false true b e = absurd (no_true e)
-  where
-    no_true : true ≡ false → ⊥
-    no_true h = cc
 
 pub other-list : (w : WorkList) (n : ℕ) → (w.task == n) ≡ false → durations (handed (w ∷ [])) n ≡ []
 other-list w n other = rw other refl
@@ -50,11 +40,11 @@ joined-all ws i n ts all past so_far = sym (append-nil ts) ∙ ap (λ vs. ts ++ 
 -- where no duration is of nothing, each is of some ticks
 pub long-at : (ds : List ℕ) (i d : ℕ) → has_nothing ds ≡ false → slice_get ds i ≡ Some d → 0 < d
 long-at [] i d h at = absurd (none-some d at)
-long-at (e ∷ ds) zero d h at = let same : e ≡ d = same_Some e d at in some e d (or_false (e == 0) (has_nothing ds) h).0 same
+long-at (e ∷ ds) zero d h at = let same : e ≡ d = same_Some e d at in some e d (or_parts (e == 0) (has_nothing ds) h).0 same
   where
     some : (m k : ℕ) → (m == 0) ≡ false → m ≡ k → 0 < k
     some m k t s = subst (λ (z : ℕ). 0 < z) s (positive m t)
       where
         positive : (m : ℕ) → (m == 0) ≡ false → 0 < m
         positive m t = grind (arith, nat_tests)
-long-at (e ∷ ds) (suc i) d h at = long-at ds i d (or_false (e == 0) (has_nothing ds) h).1 at
+long-at (e ∷ ds) (suc i) d h at = long-at ds i d (or_parts (e == 0) (has_nothing ds) h).1 at

@@ -36,3 +36,5 @@ pub mod Shared
 pub mod Sizes
 pub mod Skips
 pub mod Places
+pub mod Zeros
+pub mod Alongs

@@ -17,12 +17,13 @@ use Rattle.linker.specs.declared.code.Ins.{Ins}
 use Rattle.linker.specs.declared.code.Ins.TheVariants as ins
 use Rattle.linker.specs.declared.program.LinkedUnits.{LinkedUnits}
 use Rattle.task_runtime.specs.Effort.{IsLong, effort, ends_among, first_ticks, first_works}
+use Rattle.task_runtime.specs.Fitting.{spot_of}
 use Rattle.task_runtime.specs.Written.{reserve, system_of}
 use Rattle.task_runtime.proofs.Shared.Starting.{AreTicking}
 use Rattle.linked_task.specs.Bodies.{Body, behind_call, ended_by, first_body, into, left_at, running, turn_at, vars_here}
 use Rattle.linked_task.specs.Lefts.{pieces_by, pieces_left, running_of}
 use Rattle.linked_task.specs.Silences.{piece_ticks, piece_works}
-use Rattle.linked_task.specs.Sounds.{AreSound, IsAtWork, IsSound, spot_of}
+use Rattle.linked_task.specs.Sounds.{AreSound, IsAtWork, IsSound}
 use Rattle.linked_task.specs.declared.piece.Frame.{Frame}
 use Rattle.linked_task.specs.declared.piece.Piece as piece
 use Rattle.linked_task.specs.declared.piece.Piece.TheVariants as is

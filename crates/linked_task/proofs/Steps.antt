@@ -28,9 +28,10 @@ use Rattle.linker.specs.Scopes.{slots_of}
 use Rattle.linker.specs.Standing.{Has, Lists, Reads}
 use Rattle.linker.specs.declared.code.Ins.{Ins}
 use Rattle.linker.specs.declared.code.Ins.TheVariants as ins
+use Rattle.task_runtime.specs.Fitting.{spot_of}
 use Rattle.linked_task.specs.Bodies.{Body, counter_of, left_at, scope_at, size_of, turn_at, vars_here}
 use Rattle.linked_task.specs.Settling.{IsAmid}
-use Rattle.linked_task.specs.Sounds.{IsSound, spot_of}
+use Rattle.linked_task.specs.Sounds.{IsSound}
 use Rattle.linked_task.proofs.Heads.{Head, few_within, head_at, slots_long}
 use Rattle.linked_task.proofs.Orders.{order}
 use Rattle.linked_task.proofs.Instructions.{FollowsAs, ShowsAs, follows_as, is_ins, shows_as}

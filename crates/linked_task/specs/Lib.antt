@@ -8,3 +8,4 @@ pub mod Handing
 pub mod Doings
 pub mod Goings
 pub mod Works
+pub mod Alongs

@@ -1,27 +1,11 @@
--- Whether a piece is nothing to others, whatever calls lead to.
--- A call may enter a protected object.
-use Rattle.std.specs.Prelude.{ℕ, Bool, true, false, Option}
+-- What starts with an instruction and with a piece.
+use Rattle.std.specs.Prelude.{ℕ, Option}
 use Rattle.seq_tree.specs.declared.tree.Costs.{Costs}
 use Rattle.machine.specs.Pieces.{work_ticks}
 use Rattle.linker.specs.declared.code.Ins.{Ins}
 use Rattle.linker.specs.declared.code.Ins.TheVariants as ins
 use Rattle.linked_task.specs.declared.piece.Piece.{Piece}
 use Rattle.linked_task.specs.declared.piece.Piece.TheVariants as is
-
-abbrev pub is_quiet : Ins → Bool
-is_quiet (ins.Put value) = false
-is_quiet (ins.Call op actuals outs) = false
-is_quiet (ins.Request task value) = false
-is_quiet ins.Finish = false
-is_quiet _ = true
-
-abbrev pub is_silent : Piece → Bool
-is_silent (is.Here i) = is_quiet i
-is_silent (is.Turn counter start) = true
-is_silent is.Close = false
-is_silent (is.Keep q) = false
-is_silent (is.Open q) = false
-is_silent (is.Requested q) = false
 
 -- the ticks of an instruction, and of a piece, with the duration that a `work` is handed
 abbrev pub ins_ticks : Costs → Option ℕ → Ins → ℕ

@@ -1,13 +1,12 @@
 -- What always holds of a task at work over linked code: its bodies stand there, each call that is under way stands in its caller, and there is
 -- room for the calls that may follow.
-use Rattle.std.specs.Prelude.{◌≡◌, ◌⊎◌, ◌≤◌, ◌<◌, ℕ, ◌+◌, ◌-◌, false, true, List, [], ◌∷◌, length, map, take, drop, Option, Some, None, slice_get}
+use Rattle.std.specs.Prelude.{◌≡◌, ◌⊎◌, ◌≤◌, ◌<◌, ℕ, ◌+◌, ◌-◌, true, List, [], ◌∷◌, length, map, take, drop, Option, Some, None, slice_get}
 use Rattle.std.specs.Prelude.{vec_capacity, ⊤}
 use Rattle.seq_tree.specs.Names.{Name, are_distinct}
 use Rattle.seq_tree.specs.Expressions.{Expression}
 use Rattle.seq_tree.specs.Statements.{Statement, Statements, Branches, Null, Assign, If, For, ExitWhen, Call, Work, Put, End, Then, Nothing}
 use Rattle.seq_tree.specs.Statements.{Else, When}
 use Rattle.seq_tree.specs.Variables.{Variables}
-use Rattle.seq_tree.specs.declared.tree.OpName.{OpName}
 use Rattle.ada_tree.specs.Trees.{unit_of}
 use Rattle.machine.specs.Systems.{System, CallTarget, Plain, Protected, Request as Requests, Unknown, callee}
 use Rattle.machine.specs.Pieces.{Piece, Calling, Finishing}
@@ -21,7 +20,7 @@ use Rattle.linker.specs.declared.code.Ins.{Ins}
 use Rattle.linker.specs.declared.code.Ins.TheVariants as ins
 use Rattle.linker.specs.declared.program.LinkedUnits.{LinkedUnits}
 use Rattle.task_runtime.specs.Callable.{calls_room}
-use Rattle.task_runtime.specs.Fitting.{FitsBlock, Spot}
+use Rattle.task_runtime.specs.Fitting.{FitsBlock, spot_of}
 use Rattle.task_runtime.specs.Written.{CanRun, block_of_thread, reserve, system_of, thread_of}
 use Rattle.task_runtime.specs.declared.thread.Thread.{Thread}
 use Rattle.linked_task.specs.Bodies.{Body, ended, first_body, into, left_at, size_of}
@@ -79,10 +78,6 @@ pub record CanWork (t : Thread) : Type 0 where
   pub full : FullBlock (system_of t) (block_of_thread t)
   pub distinct : are_distinct (task_part (thread_of t)).names ≡ true
   pub tidy : (unit op : Name) (b : OpBody) → IsBodyOf (callee (system_of t) unit op) b → IsTidy (system_of t) b
-
--- where the statements of a body stand
-abbrev pub spot_of : System → List OpName → Spot
-spot_of y chain = record { system = y; chain = chain; inside = false; room = 192 }
 
 -- behind a body is its own end, or that of the activation
 abbrev pub IsEnding : List Piece → Type 0

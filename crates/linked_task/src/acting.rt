@@ -9,12 +9,14 @@ ghost use Rattle.task_runtime.specs.Readies.{is_ready};
 ghost use Rattle.task_runtime.specs.Stacked.{vars_of};
 ghost use Rattle.task_runtime.specs.Works.{Acts, EffortFalls, Enters, Leaves, StaysInside};
 ghost use Rattle.task_runtime.specs.Written.{system_of};
+ghost use Rattle.linked_task.specs.Alongs.{GoesAlong, MayAct, MayUse};
 ghost use Rattle.linked_task.specs.Doings.{IsDeed, IsEntry, StaysOutside};
 ghost use Rattle.linked_task.specs.Sounds.{IsAtWork, owner_of};
 ghost use Rattle.linked_task.specs.Works.{ActsAs, task_of};
 ghost use Rattle.linked_task.specs.declared.piece.Piece.TheVariants as PieceIs;
 
 use crate::piece::{Deed, Entry, Piece};
+use crate::progress::Start;
 use crate::task::Task;
 use linker::LinkedUnits;
 use seq_tree::Costs;
@@ -58,6 +60,66 @@ impl<'a> Task<'a> {
             self.readiness = self.resting();
         }
         act
+    }
+
+    /// Uses what is left of the piece at once, where that is over by the limit: the time then.
+    #[inline(always)]
+    fn use_left(&mut self, time: u64, limit: u64) -> u64
+        requires later { time ≤ limit }
+        requires near { limit < 2 ^ 32 }
+        requires small { self.old.used < 2 ^ 63 }
+        ensures { MayUse limit time self.old result self.new }
+    {
+        let ticks = u64::from(self.left);
+        if ticks == 0 {
+            return time;
+        }
+        if limit - time < ticks {
+            return time;
+        }
+        self.use_ticks(ticks);
+        time + ticks
+    }
+
+    /// Does the piece whose ticks are used, where it is nothing to others: whether there is such a piece.
+    #[inline(always)]
+    fn act_alone(&mut self, costs: &Costs, code: &LinkedUnits<'a>) -> bool
+        requires at_work { IsAtWork code.now self.old.progress }
+        requires few { self.old.works < 2 ^ 63 }
+        requires ticking { costs_break costs.now ≡ false }
+        ensures { MayAct result code.now costs.now self.old self.new }
+    {
+        if self.left != 0 {
+            return false;
+        }
+        let duration = self.duration();
+        if !self.progress.act_alone(code) {
+            return false;
+        }
+        let Start { ticks, works } = self.progress.start(costs, duration);
+        self.left = ticks;
+        self.works += works;
+        true
+    }
+
+    /// Goes on through pieces that are nothing to others, each as soon as its ticks are used, up to a time that no use of ticks passes: the time
+    /// then. Nothing else has changed.
+    pub fn go_alone(&mut self, costs: &Costs, code: &LinkedUnits<'a>, from: u64, limit: u64) -> u64
+        requires at_work { IsAtWork code.now self.old.progress }
+        requires later { from ≤ limit }
+        requires near { limit < 2 ^ 32 }
+        requires used { self.old.used ≤ from }
+        requires works { self.old.works ≤ from + min self.old.left 1 }
+        requires ticking { costs_break costs.now ≡ false }
+        ensures { GoesAlong code.now costs.now limit from self.old result self.new }
+    {
+        let mut time = from;
+        'pieces: loop {
+            time = self.use_left(time, limit);
+            if !self.act_alone(costs, code) {
+                return time;
+            }
+        }
     }
 
     /// The entry into an operation of a protected object, whose ticks are used: the values are handed in, and the data of the

@@ -19,19 +19,19 @@ use task_runtime::Var;
 use trace_tree::Values;
 
 /// Adds the values of the actuals that are handed in, in order: their operands stand in code from `first` on.
-pub fn hand_in(values: &mut Values, code: &Code, first: usize, params: &[Param], slots: &[u32])
+pub fn hand_in(values: &mut Values, code: &Code, first: usize, params: &[Param], slots: &Slots)
     requires ordered { AreOrdered code.now.nodes.items }
     requires room { length values.old + length params.now ≤ 8 }
     requires there { ValuesAt (lists_of code.now) first params.now }
     ensures { (scope : Variables) (es : List Expression) → ValuesStand (lists_of code.now) scope first (values_in params.now es)
-        → values.new ≡ values.old ++ values_of (values_in params.now es) (vars_at scope slots.now) }
+        → values.new ≡ values.old ++ values_of (values_in params.now es) (vars_at scope slots.now.here) }
 {
     let Some((param, params)) = params.split_first() else {
         return;
     };
     match param.mode {
         Mode::In => {
-            values.push(value_at(&code.nodes, code.actuals[first], slots));
+            values.push(value_at(&code.nodes, code.actuals[first], slots.here()));
             hand_in(values, code, first + 1, params, slots);
         }
         Mode::Out => hand_in(values, code, first, params, slots),
@@ -52,13 +52,13 @@ pub fn ins_len(params: &[Param]) -> usize
 }
 
 /// Adds the values of the parameters that are handed out, in order. They stand in the slots below `top`, the first one uppermost.
-pub fn hand_out(values: &mut Values, top: usize, params: &[Param], slots: &[u32])
+pub fn hand_out(values: &mut Values, top: usize, params: &[Param], slots: &Slots)
     requires room { length values.old + length params.now ≤ 8 }
     requires distinct { are_distinct (param_names params.now) ≡ true }
     requires fits { length params.now ≤ top }
-    requires there { top ≤ length slots.now }
+    requires there { top ≤ length slots.now.here }
     ensures { (ns : List NameBytes) → length ns + length params.now ≡ top
-        → values.new ≡ values.old ++ reads (out_names params.now) (vars_at (slots_of (param_names params.now ++ ns)) slots.now) }
+        → values.new ≡ values.old ++ reads (out_names params.now) (vars_at (slots_of (param_names params.now ++ ns)) slots.now.here) }
 {
     let Some((param, params)) = params.split_first() else {
         return;
@@ -66,7 +66,7 @@ pub fn hand_out(values: &mut Values, top: usize, params: &[Param], slots: &[u32]
     match param.mode {
         Mode::In => hand_out(values, top - 1, params, slots),
         Mode::Out => {
-            values.push(slots[top - 1]);
+            values.push(slots.get(top - 1));
             hand_out(values, top - 1, params, slots);
         }
     }
@@ -94,11 +94,11 @@ pub fn store(slots: &mut Slots, code: &Code, first: usize, count: usize, values:
 }
 
 /// Puts these data, with the values that they have in the first slots, in place of what is kept.
-pub fn keep_data<'a>(into: &mut Vec<Var<'a>>, data: &'a [Datum], slots: &[u32])
+pub fn keep_data<'a>(into: &mut Vec<Var<'a>>, data: &'a [Datum], slots: &Slots)
     requires room { length «data».now ≤ vec_capacity into.old }
-    requires there { length «data».now ≤ length slots.now }
+    requires there { length «data».now ≤ length slots.now.here }
     ensures kept { (ns : List NameBytes) → are_distinct (ns ++ datum_names «data».entry.now) ≡ true
-        → vars_of into.new.items ≡ kept «data».entry.now (vars_at (slots_of (ns ++ datum_names «data».entry.now)) slots.now) }
+        → vars_of into.new.items ≡ kept «data».entry.now (vars_at (slots_of (ns ++ datum_names «data».entry.now)) slots.now.here) }
     ensures room { vec_capacity into.new ≡ vec_capacity into.old }
 {
     into.clear();
@@ -107,7 +107,7 @@ pub fn keep_data<'a>(into: &mut Vec<Var<'a>>, data: &'a [Datum], slots: &[u32])
         at -= 1;
         into.push_reserved(Var {
             name: &data[at].name,
-            value: slots[data.len() - 1 - at],
+            value: slots.get(data.len() - 1 - at),
         });
     }
 }

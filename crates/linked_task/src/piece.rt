@@ -25,40 +25,6 @@ pub enum Piece {
     Requested(Request),
 }
 
-impl Piece {
-    ghost use Rattle.std.specs.Prelude.{◌≡◌};
-    ghost use Rattle.linked_task.specs.Silences.{is_silent};
-
-    /// Whether the piece is nothing to others, whatever calls lead to.
-    pub fn is_silent(self) -> bool
-        ensures { result ≡ is_silent self }
-    {
-        match self {
-            Piece::Here(ins) => match ins {
-                Ins::Null => true,
-                Ins::Work(_) => true,
-                Ins::Assign { .. } => true,
-                Ins::Put(_) => false,
-                Ins::Test { .. } => true,
-                Ins::Exit { .. } => true,
-                Ins::Jump(_) => true,
-                Ins::Begin { .. } => true,
-                Ins::Next { .. } => true,
-                Ins::Call { .. } => false,
-                Ins::Request { .. } => false,
-                Ins::Nowhere => true,
-                Ins::Return => true,
-                Ins::Finish => false,
-            },
-            Piece::Turn { .. } => true,
-            Piece::Close => false,
-            Piece::Keep(_) => false,
-            Piece::Open(_) => false,
-            Piece::Requested(_) => false,
-        }
-    }
-}
-
 /// A call that is under way.
 #[derive(Clone, Copy, Drop)]
 pub struct Frame<'a> {

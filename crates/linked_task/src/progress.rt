@@ -15,6 +15,7 @@ ghost use Rattle.task_runtime.specs.Effort.{IsLong, first_ticks, first_works};
 ghost use Rattle.task_runtime.specs.Fitting.{names_of};
 ghost use Rattle.task_runtime.specs.Stacked.{vars_of};
 ghost use Rattle.task_runtime.specs.Written.{block_of_thread, reserve, system_of, timing_of};
+ghost use Rattle.linked_task.specs.Alongs.{MayGo};
 ghost use Rattle.linked_task.specs.Doings.{DoesFirst, EndsBody, EntersFirst, IsDeed, IsEntry, Passes, StaysOutside, owner_at, piece_of};
 ghost use Rattle.linked_task.specs.Goings.{Goes, GoesOnAt, HasCalled, HasReturned};
 ghost use Rattle.linked_task.specs.Handing.{IsHanded};
@@ -291,7 +292,7 @@ impl<'a> Progress<'a> {
         ensures { Goes code.now self.old deeds.Silent self.new }
     {
         let slot = counter as usize;
-        let value = self.stack.slots.here()[slot];
+        let value = self.stack.slots.get(slot);
         self.stack.slots.put(slot + 1, value);
         self.go_to(code, start as usize);
     }
@@ -303,7 +304,7 @@ impl<'a> Progress<'a> {
         ensures { Goes code.now self.old deeds.Silent self.new }
     {
         let slot = counter as usize;
-        let value = self.stack.slots.here()[slot];
+        let value = self.stack.slots.get(slot);
         if value < last {
             self.stack.slots.put(slot, value + 1);
             self.piece = Some(Piece::Turn { counter, start });
@@ -353,7 +354,7 @@ impl<'a> Progress<'a> {
             &code.code,
             actuals as usize,
             &body.op.sig.params,
-            self.stack.slots.here(),
+            &self.stack.slots,
         );
         let away = self.stack.size();
         self.stack.slots.enter(away);
@@ -389,7 +390,7 @@ impl<'a> Progress<'a> {
         let op = frame.body.op;
         let mut values = Values::new();
         let top = op.sig.params.len() + op.locals.len() + frame.body.vars.len();
-        hand_out(&mut values, top, &op.sig.params, self.stack.slots.here());
+        hand_out(&mut values, top, &op.sig.params, &self.stack.slots);
         self.stack.slots.leave(frame.away);
         let Ins::Call { actuals, outs, .. } = code.code.ins[frame.at] else {
             unreachable!()
@@ -517,6 +518,97 @@ impl<'a> Progress<'a> {
         }
     }
 
+    /// Does what the first piece does, where it is nothing to others: whether there is such a piece.
+    #[inline(always)]
+    pub fn act_alone(&mut self, code: &LinkedUnits<'a>) -> bool
+        requires at_work { IsAtWork code.now self.old }
+        ensures { MayGo result code.now self.old self.new }
+    {
+        let Some(piece) = self.piece else {
+            return false;
+        };
+        match piece {
+            Piece::Here(ins) => self.act_alone_here(code, ins),
+            Piece::Turn { counter, start } => {
+                self.next_turn(code, counter, start);
+                true
+            }
+            Piece::Close => false,
+            Piece::Keep(_) => false,
+            Piece::Open(_) => false,
+            Piece::Requested(_) => false,
+        }
+    }
+
+    /// Does what the instruction at the task's place does, where it is nothing to others: whether it is.
+    #[inline(always)]
+    fn act_alone_here(&mut self, code: &LinkedUnits<'a>, ins: Ins) -> bool
+        requires at_work { IsAtWork code.now self.old }
+        requires piece { self.old.piece ≡ Some (PieceIs.Here ins) }
+        ensures { MayGo result code.now self.old self.new }
+    {
+        match ins {
+            Ins::Null => {
+                self.pass(code, ins);
+                true
+            }
+            Ins::Work(_) => {
+                self.pass(code, ins);
+                true
+            }
+            Ins::Assign { slot, value } => {
+                self.assign(code, slot, value);
+                true
+            }
+            Ins::Put(_) => false,
+            Ins::Test { cond, other } => {
+                self.test(code, cond, other);
+                true
+            }
+            Ins::Exit { cond, to } => {
+                self.exit(code, cond, to);
+                true
+            }
+            Ins::Jump(_) => unreachable!(),
+            Ins::Begin { counter, low } => {
+                self.first_turn(code, counter, low);
+                true
+            }
+            Ins::Next {
+                counter,
+                last,
+                start,
+            } => {
+                self.end_turn(code, counter, last, start);
+                true
+            }
+            Ins::Call { op, actuals, .. } => self.call_alone(code, op, actuals),
+            Ins::Request { .. } => false,
+            Ins::Nowhere => {
+                self.pass(code, ins);
+                true
+            }
+            Ins::Return => {
+                self.end_call(code);
+                true
+            }
+            Ins::Finish => false,
+        }
+    }
+
+    /// The call of an operation, where no protected object has it: whether none has.
+    fn call_alone(&mut self, code: &LinkedUnits<'a>, op: u32, actuals: u32) -> bool
+        requires at_work { IsAtWork code.now self.old }
+        requires piece { (outs : ℕ) × (self.old.piece ≡ Some (PieceIs.Here (InsIs.Call op actuals outs))) }
+        ensures { MayGo result code.now self.old self.new }
+    {
+        if let Some(_) = code.ops[op as usize].owner {
+            return false;
+        }
+        self.call(code, op, actuals, &[]);
+        true
+    }
+
     /// Enters an operation of a protected object, and starts the first piece of its body. The data of the object are taken.
     pub fn enter(&mut self, code: &LinkedUnits<'a>, entry: Entry, data: &mut Vec<Var<'a>>) -> Values
         requires at_work { IsAtWork code.now self.old }
@@ -557,7 +649,7 @@ impl<'a> Progress<'a> {
         let Some((frame, _)) = self.stack.frames.as_slice().split_last() else {
             unreachable!()
         };
-        keep_data(data, frame.body.vars, self.stack.slots.here());
+        keep_data(data, frame.body.vars, &self.stack.slots);
         self.end_call(code)
     }
 

@@ -14,8 +14,8 @@ use Rattle.linker.specs.Standing.{Lists}
 use Rattle.linker.specs.declared.code.Ins.{Ins}
 use Rattle.linker.proofs.Keeping.{get_before, keeps_narrow, longer_none, longer_twice}
 
-pub roomed_none : (c : Lists) (n : ℕ) → n ≡ 0 → Roomed n c c
-roomed_none c n e = record { more = []; is = sym (append-nil c.ins); long = sym e; nodes = refl; actuals = refl }
+pub roomed_none : (c d : Lists) (n : ℕ) → n ≡ 0 → d.ins ≡ c.ins → d.nodes ≡ c.nodes → d.actuals ≡ c.actuals → Roomed n c d
+roomed_none c d n e is nodes actuals = record { more = []; is = is ∙ sym (append-nil c.ins); long = sym e; nodes = nodes; actuals = actuals }
 
 pub roomed_one : (n m : ℕ) (i : Ins) (c d e : Lists) → Roomed n c d → e.ins ≡ d.ins ++ i ∷ [] → e.nodes ≡ d.nodes → e.actuals ≡ d.actuals → m ≡ suc n
     → Roomed m c e

@@ -18,6 +18,7 @@ fn make_room(code: &mut Code, count: u32) -> Result<u32, NoMemory>
 {
     let start = narrow(code.ins.len())?;
     let end = start.checked_add(count).ok_or(NoMemory)?;
+    code.ins.reserve(count as usize)?;
     let mut left = count;
     'places: while left > 0 {
         code.ins.push(Ins::Null)?;

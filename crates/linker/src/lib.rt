@@ -1,5 +1,5 @@
 //! The linker: the units of a program as flat code, in which every name is a slot, every expression an operand, and every call leads to a place.
-//! No code runs over it yet.
+//! `linked_task` runs it.
 //!
 //! It stands on `linked` for expressions, on `law_flat_code`, which says when a block stands in code and what is ahead of each place, and on
 //! `machine`, which says what a call leads to. `link_units` carries the promise (`specs/Programs.antt`): the body of each operation to which

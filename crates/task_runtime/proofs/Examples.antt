@@ -5,13 +5,12 @@ use Rattle.seq_tree.specs.declared.tree.Costs.{Costs}
 use Rattle.machine.specs.Pieces.{Working, Finishing}
 use Rattle.machine.specs.States as states
 use Rattle.task_runtime.specs.Effort.{IsLong, first_ticks}
-use Rattle.task_runtime.specs.declared.task.Task.{Task}
 use Rattle.seq_tree.specs.Variables.{Variables}
 use Rattle.task_runtime.specs.Doing.{KeepsData}
 use Rattle.task_runtime.specs.Readies.{readiness_of, rests_as}
 use Rattle.task_runtime.specs.Works.{asked}
 use Rattle.task_runtime.specs.declared.effects.Act.TheVariants.{Finish}
-use Rattle.task_runtime.specs.declared.task.Readiness.TheVariants as readies
+use Rattle.task_runtime.specs.declared.readiness.Readiness.TheVariants as readies
 use Rattle.task_runtime.specs.declared.thread.Timing.TheVariants as timing
 
 abbrev unit_costs : Costs

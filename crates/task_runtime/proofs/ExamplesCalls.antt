@@ -7,11 +7,9 @@ use Rattle.machine.specs.Pieces.{Closing, Finishing, Idle, Keeping, Opening}
 use Rattle.machine.specs.Pieces as pieces
 use Rattle.machine.specs.Deeds as deeds
 use Rattle.task_runtime.specs.Callable.{CallsAlike, Leads, calls_room, data_by, is_known, op_in, op_name, target_in}
-use Rattle.task_runtime.specs.Doing.{IsActOf, IsOutside, IsPlain}
 use Rattle.task_runtime.specs.Effort.{effort, ends_among, sections_among}
 use Rattle.task_runtime.specs.Works.{StaysInside}
-use Rattle.task_runtime.specs.declared.effects.Deed.TheVariants as to
-use Rattle.task_runtime.proofs.Shared.ExampleSystem.{body, object, task, three}
+use Rattle.task_runtime.proofs.Shared.ExampleSystem.{body, object, three}
 
 abbrev passive : OpName
 passive = op_name (1 ∷ []) (11 ∷ [])
@@ -101,20 +99,3 @@ stays-outside h = two_one (one h)
   where
     one : 1 ≡ suc 1 → suc 1 ≡ 1
     one e = cc
-
--- a request enters no protected object, and is no call of a passive operation
-outside : IsOutside (Request 0)
-outside = tt
-
-not-outside : IsOutside (target_in three shared) → ⊥
-not-outside h = h
-
-not-plain : IsPlain (Request 0) → ⊥
-not-plain h = h
-
--- a piece that reaches a control structure asks there
-asks : IsActOf (to.Ask 2) (deeds.Ask 2)
-asks = refl
-
-asks-not : IsActOf to.Own (deeds.Ask 2) → ⊥
-asks-not h = wrong h

@@ -28,11 +28,11 @@ use Rattle.seq_tree.proofs.Shared.SameNames.{same-self, same-is}
 use Rattle.task_runtime.proofs.Targets.{AreApart, apart, at-unit, bodies-of, body-of, head-known, is_plain, is_protected, offered-unit, ops_of}
 use Rattle.task_runtime.proofs.Targets.{passive-unit, plain-form, plain-known, shared-form, some-unit, unit_target}
 
-not_true : (b : Bool) → (b ≡ true → ⊥) → b ≡ false
+pub not_true : (b : Bool) → (b ≡ true → ⊥) → b ≡ false
 not_true true h = absurd (h refl)
 not_true false h = refl
 
-not_false : (b : Bool) → not b ≡ false → b ≡ true
+pub not_false : (b : Bool) → not b ≡ false → b ≡ true
 not_false true h = refl
 not_false false h = absurd (no_true h)
 

@@ -2,7 +2,6 @@
 pub mod AtWork
 pub mod Doings
 pub mod ExampleSystem
-pub mod Frames
 pub mod Runnable
 pub mod Sections
 pub mod Starting

@@ -14,12 +14,22 @@ use Rattle.ada_tree.specs.Programs.{Unit, Form, Passive, Shared, Cyclic, Sporadi
 use Rattle.ada_tree.specs.Bodies.{bodies, heads, op_body}
 use Rattle.ada_tree.specs.Uses.{is_confined, is_empty, is_shared, passive_ops, shared_ops}
 use Rattle.arrivals_tree.specs.declared.arrivals.WorkList.{WorkList}
-use Rattle.machine.specs.Systems.{CallTarget, Plain, Protected, Request, Unknown, library_or, object_or, op_named, plain_by, protected_by, request_by}
+use Rattle.machine.specs.Systems.{PassiveUnit, ProtectedUnit, TaskUnit, CallTarget, Plain, Protected, Request, Unknown, library_or, object_or}
+use Rattle.machine.specs.Systems.{op_named, plain_by, protected_by, request_by}
 use Rattle.task_runtime.specs.Callable.{is_known, op_by}
 use Rattle.task_runtime.specs.Libraries.{libraries_from, objects_from, threads_from}
 use Rattle.task_runtime.proofs.CallLaws.{no_true, of_name}
 use Rattle.seq_tree.proofs.Shared.SameNames.{same-self, same-is}
-use Rattle.task_runtime.proofs.Finding.{library_named, object_named, task_named}
+
+-- whether a unit of each kind has this name
+abbrev library_named : Name → PassiveUnit → Bool
+library_named name l = same_name l.name name
+
+abbrev object_named : Name → ProtectedUnit → Bool
+object_named name g = same_name g.name name
+
+abbrev task_named : Name → TaskUnit → Bool
+task_named name t = same_name t.name name
 
 -- units whose names differ
 abbrev pub AreApart : List Unit → Type 0
@@ -118,14 +128,6 @@ module _ (work : List WorkList) where
   past_unit n a b d us c name (Shared ceiling vars ops) e = (a, suc b, d, rw e refl)
   past_unit n a b d us c name (Cyclic priority offset period vars block) e = (a, b, suc d, rw e refl)
   past_unit n a b d us c name (Sporadic priority ceiling sig separation jitter external vars block) e = (a, b, suc d, rw e refl)
-
-  -- a call of a name that no unit has leads nowhere
-  pub no-target : (n a b d : ℕ) (us : List Unit) (c : OpName) → is_named (map (λ v. v.name) us) c.object ≡ false → target_from n a b d us c ≡ Unknown
-  no-target n a b d [] c h = refl
-  no-target n a b d (u ∷ us) c h =
-      let both = or_parts (same_name u.name c.object) (is_named (map (λ v. v.name) us) c.object) h in
-      let past = past_unit n a b d us c u.name u.form both.0 in
-      past.3 ∙ no-target (n + 1) past.0 past.1 past.2 us c both.1
 
   -- a call leads to the unit of its name
   pub at-unit : (us : List Unit) (n a b d i : ℕ) (u : Unit) (c : OpName) → AreApart us → slice_get us i ≡ Some u → same_name u.name c.object ≡ true

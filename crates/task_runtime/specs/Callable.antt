@@ -1,17 +1,13 @@
 -- The operations that calls lead to, by their names, and which of them lead to which.
 -- Units of one name are told by the first of them, and so are operations of one name.
-use Rattle.std.specs.Prelude.{◌≡◌, ℕ, ◌+◌, Bool, true, false, List, [], ◌∷◌, length, map, if◌then◌else◌, Option, Some, None}
+use Rattle.std.specs.Prelude.{◌≡◌, ℕ, ◌+◌, Bool, true, false, List, [], ◌∷◌, length, if◌then◌else◌, Option, Some, None}
 use Rattle.std.specs.List.{list_any}
-use Rattle.seq_tree.specs.Names.{Name, same_name}
+use Rattle.seq_tree.specs.Names.{Name}
 use Rattle.seq_tree.specs.Operations.{Operation}
 use Rattle.seq_tree.specs.Calls.{block_calls, same_op}
-use Rattle.seq_tree.specs.Trees.{operation_of}
 use Rattle.seq_tree.specs.declared.tree.Datum.{Datum}
 use Rattle.seq_tree.specs.declared.tree.OpName.{OpName}
 use Rattle.machine.specs.Systems.{System, PassiveUnit, ProtectedUnit, CallTarget, Plain, Protected, Request, Unknown, callee}
-use Rattle.task_runtime.specs.declared.callable.Callee.{Callee}
-use Rattle.task_runtime.specs.declared.callable.Callee.TheVariants as found
-use Rattle.task_runtime.specs.declared.callable.Object.{Object}
 
 -- an operation by its names
 abbrev pub op_name : Name → Name → OpName
@@ -69,7 +65,7 @@ abbrev pub IsClear : System → List OpName → OpName → Type 0
 IsClear y chain c =
     (is_known (target_in y c) ≡ true) × (is_in chain c ≡ false) × ((path : List OpName) (to : OpName) → Leads y c path to → is_in chain to ≡ false)
 
--- the room for a call: for each variable of the body, for so many data of an object, and for its frames
+-- the room for a call: for each variable of the body, for so many data of an object, and for what is nested in it
 abbrev pub call_room : ℕ → Operation → ℕ
 call_room more o = length o.sig.params + length o.locals + more + 194
 
@@ -93,29 +89,3 @@ objects_room chain gs = units_room (λ g. g.name) (λ g. length g.vars) (λ g. g
 -- the room for calls of all operations that are not under way: each is under way at most once, since no operation leads to itself
 abbrev pub calls_room : List OpName → System → ℕ
 calls_room chain y = libraries_room chain y.libraries + objects_room chain y.objects
-
--- what a call leads to, as it was found
-abbrev pub IsCallee : Option Callee → CallTarget → Type 0
-IsCallee None k = k ≡ Unknown
-IsCallee (Some (found.Plain o)) k = k ≡ Plain (operation_of o.now)
-IsCallee (Some (found.Protected object place data' o)) k = (g : ProtectedUnit) × (k ≡ Protected object place g (operation_of o.now))
-    × (g.vars ≡ data'.now)
-IsCallee (Some (found.Request task)) k = k ≡ Request task
-
--- the request of a task by this operation, where a task was found that is requested by one
-abbrev pub requested : Name → Option (ℕ × Name) → CallTarget
-requested op None = Unknown
-requested op (Some t) = if same_name t.1 op then Request t.0 else Unknown
-
--- what a call takes of a protected object: its place, its data and its operations
-pub record ObjectParts : Type 0 where
-  pub place : ℕ
-  pub vars : List Datum
-  pub ops : List Operation
-
-abbrev pub object_parts : ℕ × ProtectedUnit → ObjectParts
-object_parts g = record { place = g.0; vars = g.1.vars; ops = g.1.ops }
-
--- the same of an object that was found
-abbrev pub found_object : Object → ObjectParts
-found_object o = record { place = o.place; vars = o.«data».now; ops = map operation_of o.ops.now }

@@ -46,7 +46,7 @@ request_params (Requested op ceiling separation jitter external) = op.params
 abbrev pub own_vars : TaskUnit → ℕ
 own_vars t = length t.vars + length (request_params t.timing)
 
--- the most ends that may follow each other: no task has more frames
+-- the most ends that may follow each other: no task has room for more
 abbrev pub most_ends : System → ℕ
 most_ends y = sum (map own_vars y.threads) + 196 + calls_room [] y
 

@@ -1,17 +1,10 @@
 pub mod Stacked
-pub mod Chains
-pub mod Scoped
-pub mod Slots
 pub mod Callable
-pub mod Progresses
 pub mod Fitting
 pub mod Libraries
-pub mod Called
 pub mod Effort
 pub mod Written
-pub mod OneProof
 pub mod Doing
-pub mod Framed
 pub mod Progressed
 pub mod Readies
 pub mod Works

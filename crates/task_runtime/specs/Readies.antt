@@ -2,9 +2,9 @@
 -- A task with times of its own sleeps between its activations; one that is released by requests waits.
 use Rattle.std.specs.Prelude.{ℕ, Bool, true, false}
 use Rattle.machine.specs.States as states
-use Rattle.task_runtime.specs.declared.task.Gate.{Gate}
-use Rattle.task_runtime.specs.declared.task.Readiness.{Readiness}
-use Rattle.task_runtime.specs.declared.task.Readiness.TheVariants.{Asleep, Waiting, Ready}
+use Rattle.task_runtime.specs.declared.readiness.Gate.{Gate}
+use Rattle.task_runtime.specs.declared.readiness.Readiness.{Readiness}
+use Rattle.task_runtime.specs.declared.readiness.Readiness.TheVariants.{Asleep, Waiting, Ready}
 use Rattle.task_runtime.specs.declared.thread.Timing.{Timing}
 use Rattle.task_runtime.specs.declared.thread.Timing.TheVariants.{Periodic, Requested}
 

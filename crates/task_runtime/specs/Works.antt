@@ -1,57 +1,19 @@
--- A task at work: what it stands for, and what its methods do to it.
-use Rattle.std.specs.Prelude.{◌≡◌, ℕ, suc, ◌-◌, ◌+◌, ◌<◌, ◌≤◌, true, List, [], ◌∷◌, ◌++◌, length, Option}
-use Rattle.seq_tree.specs.Variables.{Variables, written}
+-- A task at work: what is done to it, and what its first piece does.
+use Rattle.std.specs.Prelude.{◌≡◌, ℕ, suc, ◌-◌, ◌+◌, ◌<◌, ◌≤◌, true, List, ◌∷◌, ◌++◌, length, Option}
+use Rattle.seq_tree.specs.Variables.{Variables}
 use Rattle.seq_tree.specs.declared.tree.Costs.{Costs}
 use Rattle.machine.specs.Systems.{System}
 use Rattle.machine.specs.Pieces.{Piece}
 use Rattle.machine.specs.Deeds as deeds
-use Rattle.machine.specs.Deeds.{done}
 use Rattle.machine.specs.States as states
-use Rattle.machine.specs.States.{first_time, first_wait, shut}
 use Rattle.machine.specs.Releases.{going}
 use Rattle.machine.specs.Effects.{ended}
-use Rattle.task_runtime.specs.Callable.{CallsAlike}
-use Rattle.task_runtime.specs.Doing.{Does, IsActOf, act_of}
+use Rattle.task_runtime.specs.Doing.{Does, act_of}
 use Rattle.task_runtime.specs.Effort.{effort, sections_among}
-use Rattle.task_runtime.specs.Insides.{inside_of}
-use Rattle.task_runtime.specs.Written.{reserve, thread_of, timing_of}
+use Rattle.task_runtime.specs.Written.{reserve}
 use Rattle.task_runtime.specs.declared.thread.Thread.{Thread}
-use Rattle.task_runtime.specs.Progressed.{vars_left, pieces_left}
 use Rattle.task_runtime.specs.declared.effects.Act.{Act}
 use Rattle.task_runtime.specs.declared.effects.Act.TheVariants.{Finish}
-use Rattle.task_runtime.specs.declared.effects.Deed.{Deed}
-use Rattle.task_runtime.specs.declared.task.Task.{Task}
-use Rattle.task_runtime.specs.Readies.{gate_of, readiness_of}
-
--- the task
-abbrev pub task_of : Task → states.Task
-task_of t = record {
-  thread = thread_of t.progress.stack.thread;
-  readiness = readiness_of t.readiness t.next;
-  active = t.active;
-  next = t.next;
-  vars = vars_left t.progress;
-  pieces = pieces_left t.progress;
-  left = t.left;
-  used = t.used;
-  works = t.works;
-  inside = inside_of t.inside.items;
-  gate = gate_of t.gate;
-}
-
--- a task before its first activation
-pub record IsFresh (t : Task) (th : Thread) : Type 0 where
-  pub thread : t.progress.stack.thread ≡ th
-  pub vars : vars_left t.progress ≡ written th.«data».now
-  pub pieces : pieces_left t.progress ≡ []
-  pub rests : readiness_of t.readiness (first_time (timing_of th.timing)) ≡ first_wait (timing_of th.timing)
-  pub next : t.next ≡ first_time (timing_of th.timing)
-  pub left : t.left ≡ 0
-  pub used : t.used ≡ 0
-  pub works : t.works ≡ 0
-  pub gate : gate_of t.gate ≡ shut
-  pub active : t.active ≡ th.priority
-  pub inside : t.inside.items ≡ []
 
 -- a task that a request from outside has reached
 abbrev pub asked : Option ℕ → states.Task → states.Task
@@ -103,11 +65,6 @@ pub record Leaves (z : System) (costs : Costs) (object op : ℕ) (values : List 
   pub first : t.pieces ≡ piece ∷ rest
   pub does : Does z piece t.vars rest (deeds.Leave object op values data') vars pieces
   pub after : t' ≡ going costs vars pieces t
-
--- the act of a task's first piece, by what the piece reaches
-abbrev pub ActsAs : System → states.Task → Deed → Type 0
-ActsAs z t reached = (p : Piece) (rest : List Piece) → t.pieces ≡ p ∷ rest → (y : System) → CallsAlike y z
-    → IsActOf reached (done y p t.vars rest).act
 
 -- how many sections a task is inside after an act, by how many it was before
 abbrev pub StaysInside : deeds.Act → ℕ → ℕ → Type 0

@@ -1,6 +1,6 @@
 -- What a task of the machine is written as, and what is known of it and of the operations that it may call.
 -- It is released at its own times, or at requests.
-use Rattle.std.specs.Prelude.{◌≡◌, ℕ, ◌+◌, ◌≤◌, true, false, [], ◌∷◌, ◌++◌, List, map, length, Some}
+use Rattle.std.specs.Prelude.{◌≡◌, ℕ, ◌+◌, ◌≤◌, true, [], ◌∷◌, ◌++◌, List, map, length, Some}
 use Rattle.seq_tree.specs.Names.{Name, are_distinct}
 use Rattle.seq_tree.specs.Statements.{Statements}
 use Rattle.seq_tree.specs.Operations.{Operation}
@@ -15,12 +15,11 @@ use Rattle.machine.specs.Systems as systems
 use Rattle.machine.specs.Systems.{System}
 use Rattle.task_runtime.specs.Callable.{IsClear, call_room, calls_room, data_by, op_in, target_in}
 use Rattle.task_runtime.specs.Effort.{request_params}
-use Rattle.task_runtime.specs.Fitting.{FitsBlock, Place, Spot, above, in_call, next}
+use Rattle.task_runtime.specs.Fitting.{FitsBlock, spot_of}
 use Rattle.task_runtime.specs.Libraries.{handed, system_from}
 use Rattle.task_runtime.specs.declared.thread.Thread.{Thread}
 use Rattle.task_runtime.specs.declared.thread.Timing.{Timing}
 use Rattle.task_runtime.specs.declared.thread.Timing.TheVariants.{Periodic, Requested}
-use Rattle.task_runtime.specs.declared.piece.Frame.TheVariants as frame
 
 -- the block of a task
 abbrev pub block_of_thread : Thread → Statements
@@ -73,37 +72,24 @@ form_by (Requested op ceiling separation jitter external) priority vars block =
 abbrev pub written_as : Thread → Unit
 written_as t = record { name = t.name.now; form = form_by t.timing t.priority t.data.now (block_of_thread t) }
 
--- where the first frame of an activation stands; there is room for the parameters besides
-abbrev pub first_place : Thread → Place
-first_place t = record {
-  spot = record { system = system_of t; chain = []; inside = false; room = length (param_names t) + 194 };
-  names = data_names t;
-  params = param_names t;
-  height = 0;
-}
-
--- where its block stands
-abbrev pub block_place : Thread → Place
-block_place t = next (first_place t) frame.Finish
-
--- the room that is enough for every run of a task: for each of its data, for the parameters of a request, for its own frames, and
--- for a call of each operation
+-- the room that is enough for every run of a task: for each of its data, for the parameters of a request, for what is nested in its block,
+-- and for a call of each operation
 abbrev pub reserve : Thread → ℕ
 reserve t = length t.data.now + length (param_names t) + 196 + calls_room [] (system_of t)
 
--- an operation that can be called where it is clear: its body does with the frames of a call, and there is room for the call
--- and for the data that come with it
-pub record IsReady (s : Spot) (c : OpName) (o : Operation) : Type 0 where
-  pub block : FitsBlock (above (in_call s c)) o.block
+-- an operation that can be called where it is clear, inside the calls that are under way: its body does with its room, and there is room for
+-- the call and for the data that come with it
+pub record IsReady (y : System) (chain : List OpName) (c : OpName) (o : Operation) : Type 0 where
+  pub block : FitsBlock (spot_of y (c ∷ chain)) o.block
   pub few : length o.sig.params ≤ 8
-  pub room : calls_room (c ∷ s.chain) s.system + call_room (length (data_by (target_in s.system c))) o ≤ calls_room s.chain s.system
+  pub room : calls_room (c ∷ chain) y + call_room (length (data_by (target_in y c))) o ≤ calls_room chain y
 
 -- units whose operations can all be called
 abbrev pub CanCall : System → Type 0
-CanCall y = (s : Spot) (c : OpName) (o : Operation) → s.system ≡ y → op_in y c ≡ Some o → IsClear y s.chain c → IsReady s c o
+CanCall y = (chain : List OpName) (c : OpName) (o : Operation) → op_in y c ≡ Some o → IsClear y chain c → IsReady y chain c o
 
 -- a task that can be run
 pub record CanRun (t : Thread) : Type 0 where
-  pub block : FitsBlock (above (block_place t).spot) (block_of_thread t)
+  pub block : FitsBlock (spot_of (system_of t) []) (block_of_thread t)
   pub distinct : are_distinct (data_names t ++ param_names t) ≡ true
   pub calls : CanCall (system_of t)

@@ -1,11 +1,8 @@
-ghost use Rattle.std.specs.Prelude.{◌≡◌, true, false, length};
-ghost use Rattle.task_runtime.specs.Effort.{request_params};
-ghost use Rattle.machine.specs.States.{first_time, first_wait};
-ghost use Rattle.task_runtime.specs.Readies.{is_ready, readiness_of, rests_as};
-ghost use Rattle.task_runtime.specs.Written.{timing_of};
+ghost use Rattle.std.specs.Prelude.{◌≡◌, length};
 ghost use Rattle.machine.specs.Effects.{ceiling_by};
+ghost use Rattle.task_runtime.specs.Effort.{request_params};
+ghost use Rattle.task_runtime.specs.Written.{timing_of};
 
-use crate::task::Readiness;
 use ada_tree::Unit;
 use arrivals_tree::WorkList;
 use seq_tree::{Datum, Name, OpSig, Stmt};
@@ -35,28 +32,6 @@ pub fn params_len(timing: Timing) -> usize
     match timing {
         Timing::Periodic { .. } => 0,
         Timing::Requested { op, .. } => op.params.len(),
-    }
-}
-
-/// Whether a task sleeps or waits first.
-pub fn opening_rest(timing: Timing) -> Readiness
-    ensures readiness { readiness_of result (first_time (timing_of timing.entry)) ≡ first_wait (timing_of timing.entry) }
-    ensures rests { is_ready result ≡ false }
-    ensures fits { rests_as result timing.entry ≡ true }
-{
-    match timing {
-        Timing::Periodic { .. } => Readiness::Asleep,
-        Timing::Requested { .. } => Readiness::Waiting,
-    }
-}
-
-/// The first nominal time, in ticks.
-pub fn opening_time(timing: Timing) -> u64
-    ensures { result ≡ first_time (timing_of timing.entry) }
-{
-    match timing {
-        Timing::Periodic { offset, .. } => u64::from(offset),
-        Timing::Requested { .. } => 0,
     }
 }
 

@@ -9,7 +9,7 @@ use Rattle.std.proofs.lemmas.Bool.{or_parts}
 use Rattle.std.proofs.lemmas.List.Folds.{find-append, list_any-append}
 use Rattle.std.proofs.lemmas.Option.{none-some, same_Some}
 use Rattle.seq_tree.specs.Expressions.{Expression}
-use Rattle.seq_tree.specs.Faults.{BodyFault, Scope, block_fault}
+use Rattle.seq_tree.specs.Faults.{Scope, block_fault}
 use Rattle.seq_tree.specs.Lists.{Each, first_from, first_where}
 use Rattle.seq_tree.specs.Names.{Name, are_distinct, is_named, same_name}
 use Rattle.seq_tree.specs.Operations.{Offer, Operation, Signature}
@@ -28,14 +28,13 @@ use Rattle.machine.specs.Systems.{library_by, library_or, object_by, object_or, 
 use Rattle.machine.specs.Systems as released
 use Rattle.linker.specs.Callees.{OpBody}
 use Rattle.task_runtime.specs.Libraries.{libraries_from, objects_from, system_from}
-use Rattle.task_runtime.specs.Progresses.{limits}
 use Rattle.task_runtime.specs.Written.{block_of_thread, form_by, system_of, written_as}
 use Rattle.task_runtime.specs.declared.thread.Thread.{Thread}
 use Rattle.task_runtime.specs.declared.thread.Timing.{Timing}
 use Rattle.task_runtime.specs.declared.thread.Timing.TheVariants as timing
-use Rattle.task_runtime.proofs.Shared.Runnable.{can-run}
+use Rattle.task_runtime.proofs.Shared.Runnable.{can-run, limits, not_some, or_none}
 use Rattle.linked_task.specs.Sounds.{CanWork, FullBlock, IsBodyOf, IsFull, IsTidy}
-use Rattle.linked_task.proofs.Shared.Workable.{can_work, full_block, op_distinct, or_none}
+use Rattle.linked_task.proofs.Shared.Workable.{can_work, full_block, op_distinct}
 
 no_true : true ≡ false → ⊥
 no_true h = cc
@@ -47,10 +46,6 @@ not_true false h = refl
 not_false : (b : Bool) → not b ≡ false → b ≡ true
 not_false true h = refl
 not_false false h = absurd (no_true h)
-
-no_fault : (o : Option BodyFault) → ((fault : BodyFault) → o ≡ Some fault → ⊥) → o ≡ None
-no_fault None h = refl
-no_fault (Some fault) h = absurd (h fault refl)
 
 -- what is found among all that is made of units is made of one of them
 record IsMade {A : Type 0} (make : ℕ → Unit → Option A) (test : A → Bool) (us : List Unit) (x : A) : Type 0 where
@@ -271,7 +266,7 @@ each_clean p form (o ∷ ops) f c =
 -- a program that meets the rules
 module _ (p : Program) (meets : MeetsRules p) where
   unit_faultless : (i : ℕ) (u : Unit) → slice_get p.units i ≡ Some u → unit_fault p u ≡ None
-  unit_faultless i u at = no_fault (unit_fault p u) (λ fault breaks. meets Bodies (At i) (u, at, (fault, breaks)))
+  unit_faultless i u at = not_some (unit_fault p u) (λ fault breaks. meets Bodies (At i) (u, at, (fault, breaks)))
 
   naming : (i : ℕ) (u : Unit) → slice_get p.units i ≡ Some u → breaks_naming p i u ≡ false
   naming i u at = not_true (breaks_naming p i u) (λ breaks. meets Naming (At i) (u, at, breaks))

@@ -8,7 +8,7 @@ use Rattle.std.proofs.lemmas.List.Folds.{list_any-append}
 use Rattle.std.proofs.lemmas.Bool.{or_parts, and_parts}
 use Rattle.seq_tree.specs.Names.{Name, are_distinct, is_named, same_name}
 use Rattle.seq_tree.specs.Expressions.{Expression}
-use Rattle.seq_tree.specs.Faults.{Scope, BodyFault, or_else, fault_if, offer_of, call_fault, statement_fault, block_fault, branches_fault}
+use Rattle.seq_tree.specs.Faults.{Scope, or_else, fault_if, offer_of, call_fault, statement_fault, block_fault, branches_fault}
 use Rattle.seq_tree.specs.Faults.{actuals_fault, conditions, expressions_fault, is_fixed_actual, is_no_variable, out_actuals, repeats}
 use Rattle.seq_tree.specs.Faults.{within_loop, words}
 use Rattle.seq_tree.specs.Faults as fault
@@ -21,6 +21,7 @@ use Rattle.linker.specs.Programs.{datum_names, op_part, task_part}
 use Rattle.linker.specs.Programs as part
 use Rattle.task_runtime.specs.Written.{CanRun, block_of_thread, data_names, param_names, system_of, thread_of, timing_of}
 use Rattle.task_runtime.specs.declared.thread.Thread.{Thread}
+use Rattle.task_runtime.proofs.Shared.Runnable.{or_none}
 use Rattle.linked_task.specs.Sounds.{CanWork, FullBlock, FullBranches, FullStatement, IsBodyOf, IsFull, IsTidy}
 use Rattle.linked_task.proofs.Fresh.{same_params}
 
@@ -87,13 +88,6 @@ task_distinct t runs =
     ∙ distinct_swapped (data_names t) (param_names t) runs.distinct
 
 -- what two parts of a body have no fault in
-pub or_none : (a b : Option BodyFault) → or_else a b ≡ None → (a ≡ None) × (b ≡ None)
-or_none None b e = (refl, e)
-or_none (Some f) b e = absurd (no e)
-  where
-    no : Some f ≡ None → ⊥
-    no k = cc
-
 counted : (n m : ℕ) → fault_if (not (n == m)) fault.Count ≡ None → n ≡ m
 counted n m h = by (n == m) refl h
   where

@@ -1,7 +1,7 @@
 -- What a call does, by what it leads to.
-use Rattle.std.proofs.Common.{◌≡◌, ℕ, zero, suc, ◌+◌, ◌<◌, length, Bool, true, false, List, [], ◌∷◌, ◌++◌, ap, refl, subst, sym, ◌∙◌, add-zero}
+use Rattle.std.proofs.Common.{◌≡◌, ℕ, zero, suc, ◌+◌, ◌<◌, length, Bool, true, false, List, [], ◌∷◌, ◌++◌, ap, refl, sym, ◌∙◌, add-zero}
 use Rattle.std.proofs.Common.{arith, Option, Some, None}
-use Rattle.std.specs.Prelude.{option_map, slice_get, unwrap_or, if◌then◌else◌}
+use Rattle.std.specs.Prelude.{slice_get, if◌then◌else◌}
 use Rattle.std.proofs.lemmas.Option.{same_Some}
 use Rattle.seq_tree.specs.Names.{Name, same_name}
 use Rattle.seq_tree.specs.Lists.{first_from, first_where}
@@ -9,8 +9,7 @@ use Rattle.seq_tree.specs.Expressions.{Expression}
 use Rattle.seq_tree.specs.Operations.{Operation, out_names}
 use Rattle.seq_tree.specs.Runs.{request_value}
 use Rattle.seq_tree.specs.Values.{handed}
-use Rattle.seq_tree.specs.Trees.{operation_of}
-use Rattle.seq_tree.specs.Variables.{Variables, opened, targets, written}
+use Rattle.seq_tree.specs.Variables.{Variables, opened, targets}
 use Rattle.seq_tree.specs.declared.tree.OpName.{OpName}
 use Rattle.machine.specs.Systems.{System, PassiveUnit, ProtectedUnit, TaskUnit, ReleasePattern, Periodic, Requested as Sporadic, CallTarget}
 use Rattle.machine.specs.Systems.{Plain, Protected, Request, Unknown, callee, library_or, object_or, op_named, plain_by, protected_by}
@@ -19,9 +18,7 @@ use Rattle.machine.specs.Pieces.{Piece, Calling, Returning, Closing, Keeping, Op
 use Rattle.machine.specs.Deeds as deeds
 use Rattle.machine.specs.Deeds.{called, deed}
 use Rattle.task_runtime.specs.Callable.{target_in}
-use Rattle.task_runtime.specs.Doing.{Does, DoesEnter, IsEntry}
-use Rattle.task_runtime.specs.Fitting.{IsOfObject, call_name}
-use Rattle.task_runtime.specs.declared.piece.Entry.{Entry}
+use Rattle.task_runtime.specs.Doing.{Does}
 
 module _ (z : System) (object name : Name) (actuals : List Expression) (vs : Variables) (rest : List Piece) where
   pub does-plain : (o : Operation) (now : Variables) (ps : List Piece) → callee z object name ≡ Plain o
@@ -42,11 +39,12 @@ module _ (z : System) (object name : Name) (actuals : List Expression) (vs : Var
       ∷ rest)) (sym vars)
       ∙ ap (λ qs. deed (deeds.Ask task) now qs) (sym left)
 
+  -- the data of an object that is entered stand behind the variables of the body
   pub does-enter : (at op : ℕ) (g : ProtectedUnit) (o : Operation) (values : List ℕ) (lent now : Variables) (ps : List Piece)
       → callee z object name ≡ Protected at op g o
       → values ≡ handed o.sig.params actuals vs → now ≡ opened o (handed o.sig.params actuals vs) ++ lent
       → ps ≡ pieces o.block (Closing at op g.vars (out_names o.sig.params) (targets o.sig.params actuals) vs ∷ rest)
-      → DoesEnter z (Calling object name actuals) vs rest at op values lent now ps
+      → (vars : Variables) × Does z (Calling object name actuals) vs rest (deeds.Enter at op values) vars ps × (now ≡ vars ++ lent)
   does-enter at op g o values lent now ps is handed-in vars left = (
     opened o (handed o.sig.params actuals vs),
     (λ y alike. ap (λ k. called k actuals vs rest) (alike object name ∙ is)

@@ -1,7 +1,7 @@
 -- A task of a program that meets the rules can be run.
-use Rattle.std.proofs.Common.{◌≡◌, ℕ, zero, suc, ◌+◌, ◌-◌, ◌*◌, ◌≤◌, ◌<◌, ◌^◌, Bool, true, false, not, ◌&&◌, ◌||◌, List, [], ◌∷◌, ◌++◌, length}
+use Rattle.std.proofs.Common.{◌≡◌, ℕ, zero, suc, ◌+◌, ◌-◌, ◌*◌, ◌≤◌, ◌<◌, ◌^◌, Bool, true, false, not, ◌||◌, List, [], ◌∷◌, ◌++◌, length}
 use Rattle.std.proofs.Common.{map, refl, ap, sym, subst, ◌∙◌, arith, append-nil, leb-true, nat_lt, Option, Some, None}
-use Rattle.std.specs.Prelude.{◌==◌, slice_get, filter, flat_map}
+use Rattle.std.specs.Prelude.{slice_get, filter, flat_map}
 use Rattle.std.specs.List.{list_any}
 use Rattle.std.proofs.lemmas.List.Folds.{list_any-append}
 use Rattle.std.proofs.lemmas.Bool.{or_parts, and_parts}
@@ -14,44 +14,36 @@ use Rattle.seq_tree.specs.Operations.{Operation}
 use Rattle.seq_tree.specs.Calls.{statement_calls, block_calls, branch_calls, statement_works, block_works, branch_works}
 use Rattle.seq_tree.specs.Faults.{Scope, BodyFault, Exit, or_else, fault_if, statement_fault, block_fault, branches_fault, expressions_fault}
 use Rattle.seq_tree.specs.Faults.{condition, conditions, within_loop}
-use Rattle.seq_tree.specs.Proper.{IsProperStatement, IsProperBlock, AreProperStatements, IsProperIf, AreProperBranches}
+use Rattle.seq_tree.specs.Proper.{Limits, IsProperStatement, IsProperBlock, AreProperStatements, IsProperIf, AreProperBranches, within_limits}
 use Rattle.seq_tree.specs.Trees.{signature_of}
 use Rattle.seq_tree.specs.declared.tree.Datum.{Datum}
 use Rattle.seq_tree.specs.declared.tree.OpName.{OpName}
 use Rattle.ada_tree.specs.Programs.{Unit, Form, Program, Passive, Shared, Cyclic, Sporadic, is_task}
-use Rattle.machine.specs.Systems as systems
-use Rattle.machine.specs.Systems.{PassiveUnit, System, system}
-use Rattle.machine.specs.States.{first_time, opening}
-use Rattle.machine.specs.Meanings.{Running, begun}
+use Rattle.machine.specs.States.{first_time}
 use Rattle.ada_tree.specs.Bodies.{Body, bodies, bodies_fault, heads, op_body, scope, unit_fault}
 use Rattle.ada_tree.specs.Naming.{body_clashes, body_names, own_names}
 use Rattle.ada_tree.specs.Rules.{At, Bodies, MeetsRules, Ranges, Whole}
+use Rattle.ada_tree.specs.Words.{is_ada_name}
 use Rattle.ada_tree.specs.Proper.{IsProperForm, IsProperOperation, IsProperProgram}
 use Rattle.ada_tree.specs.Ranges.{is_outside, breaks_ranges, whole_breaks, costs_break, numbers_break}
-use Rattle.arrivals_tree.specs.Acceptance.{ArrivalFault, Unknown, Unfit, Far, durations_fault, has_nothing, requests_fault, works_fault}
-use Rattle.arrivals_tree.specs.Arriving.{Arrivals, Durations, durations}
 use Rattle.arrivals_tree.specs.declared.arrivals.WorkList.{WorkList}
 use Rattle.task_runtime.specs.declared.thread.Thread.{Thread}
-use Rattle.task_runtime.specs.Callable.{IsClear, call_room, calls_by, calls_room, data_by, is_in, is_known, op_name, target_in}
-use Rattle.task_runtime.specs.Fitting.{FitsBlock, FitsBranches, FitsIf, FitsStatement, Spot, above, in_call, in_loop}
-use Rattle.task_runtime.specs.Progresses.{limits}
-use Rattle.arrivals_tree.specs.Arrived.{horizon_limit}
-use Rattle.task_runtime.specs.Libraries.{handed, libraries_from, objects_from, system_from}
-use Rattle.ada_tree.specs.Trees.{unit_of}
-use Rattle.ada_tree.specs.declared.program.Unit as trees
+use Rattle.task_runtime.specs.Callable.{IsClear, calls_by, is_in, is_known, op_name, target_in}
+use Rattle.task_runtime.specs.Fitting.{FitsBlock, FitsBranches, FitsIf, FitsStatement, Spot, in_branch, in_loop, spot_of}
+use Rattle.task_runtime.specs.Libraries.{system_from}
 use Rattle.task_runtime.specs.Effort.{request_params}
 use Rattle.task_runtime.specs.declared.thread.Timing.{Timing}
 use Rattle.task_runtime.specs.declared.thread.Timing.TheVariants as timing
-use Rattle.task_runtime.specs.Written.{CanCall, CanRun, block_of_thread, block_place, durations_of, form_by, params_of, system_of, thread_of}
-use Rattle.task_runtime.specs.Written.{timing_of, written_as}
+use Rattle.task_runtime.specs.Written.{CanCall, CanRun, block_of_thread, form_by, params_of, system_of, timing_of, written_as}
 use Rattle.task_runtime.proofs.CallLaws.{clear-next, in-append, in-behind, in-one, room-taken}
-use Rattle.task_runtime.proofs.Leading.{leads-somewhere, naming, no-ring, owned, owned-calls}
+use Rattle.task_runtime.proofs.Leading.{leads-somewhere, naming, no-ring, not_false, not_true, owned, owned-calls}
 use Rattle.task_runtime.proofs.Targets.{bodies-of, heads-of, ops_of}
 
-no_true : true ≡ false → ⊥
-no_true h = cc
+-- what the names and constructs of a program that is read are within
+abbrev pub limits : Limits
+limits = within_limits is_ada_name
 
-or_none : (a b : Option BodyFault) → or_else a b ≡ None → (a ≡ None) × (b ≡ None)
+pub or_none : (a b : Option BodyFault) → or_else a b ≡ None → (a ≡ None) × (b ≡ None)
 or_none None b e = (refl, e)
 or_none (Some fault) b e = absurd (cc)
 
@@ -70,7 +62,7 @@ works_apart xs ys h = or_parts _ _ (sym (list_any-append (is_outside 1 tick_limi
 abbrev AreClear : Spot → List OpName → Type 0
 AreClear s cs = (c : OpName) → is_in cs c ≡ true → IsClear s.system s.chain c
 
--- proper statements without faults, whose numbers are in their ranges and whose calls are clear, do with three frames for each construct
+-- proper statements without faults, whose numbers are in their ranges and whose calls are clear, do with room for three for each construct
 mutual
   fits_statement : (s : Spot) (d : ℕ) (c : Scope) (t : Statement) → 3 * (64 - d) ≤ s.room → s.inside ≡ c.in_loop → IsProperStatement limits d t
       → statement_fault c t ≡ None
@@ -121,7 +113,8 @@ mutual
       let faults = or_none (block_fault c block) (branches_fault c others) f in
       let works = works_apart (block_works block) (branch_works others) w in (
         omega arith,
-        fits_block (above s) d c block (omega arith) i p.1 faults.0 works.0 (λ x e. k x (in-append (block_calls block) (branch_calls others) x e)),
+        fits_block (in_branch s) d c block (omega arith) i p.1 faults.0 works.0
+            (λ x e. k x (in-append (block_calls block) (branch_calls others) x e)),
         fits_branches s d c others h i p.2 faults.1 works.1 (λ x e. k x (in-behind (block_calls block) (branch_calls others) x e)),
       )
 
@@ -129,26 +122,19 @@ mutual
       → branches_fault c bs ≡ None
       → list_any (is_outside 1 tick_limit) (branch_works bs) ≡ false → AreClear s (branch_calls bs) → FitsBranches s bs
   fits_branches s d c Nothing h i p f w k = tt
-  fits_branches s d c (Else block) h i p f w k = (omega arith, fits_block (above s) d c block (omega arith) i p f w k)
+  fits_branches s d c (Else block) h i p f w k = (omega arith, fits_block (in_branch s) d c block (omega arith) i p f w k)
   fits_branches s d c (When e block others) h i p f w k =
       let faults = or_none (block_fault c block) (branches_fault c others) f in
       let works = works_apart (block_works block) (branch_works others) w in (
         omega arith,
-        fits_block (above s) d c block (omega arith) i p.1 faults.0 works.0 (λ x e. k x (in-append (block_calls block) (branch_calls others) x e)),
+        fits_block (in_branch s) d c block (omega arith) i p.1 faults.0 works.0
+            (λ x e. k x (in-append (block_calls block) (branch_calls others) x e)),
         fits_branches s d c others h i p.2 faults.1 works.1 (λ x e. k x (in-behind (block_calls block) (branch_calls others) x e)),
       )
 
-not_true : (b : Bool) → (b ≡ true → ⊥) → b ≡ false
-not_true true h = absurd (h refl)
-not_true false h = refl
-
-not_some : (o : Option BodyFault) → ((fault : BodyFault) → o ≡ Some fault → ⊥) → o ≡ None
+pub not_some : (o : Option BodyFault) → ((fault : BodyFault) → o ≡ Some fault → ⊥) → o ≡ None
 not_some None h = refl
 not_some (Some fault) h = absurd (h fault refl)
-
-not_false : (b : Bool) → not b ≡ false → b ≡ true
-not_false true h = refl
-not_false false h = absurd (no_true h)
 
 each_at : {A : Type 0} (P : A → Type 0) (xs : List A) (i : ℕ) (x : A) → Each P xs → slice_get xs i ≡ Some x → P x
 each_at P [] i x each at = absurd (cc)
@@ -224,7 +210,7 @@ module _ (p : Program) (meets : MeetsRules p) (proper : IsProperProgram limits p
 
   -- an operation that is clear is ready
   pub can-call : CanCall (system_from work p.units)
-  can-call s c o same e clear =
+  can-call chain c o e clear =
       let z = system_from work p.units in
       let w = owned p meets work c o e in
       let u = w.unit in
@@ -241,17 +227,15 @@ module _ (p : Program) (meets : MeetsRules p) (proper : IsProperProgram limits p
       let proper : IsProperOperation limits o = proper_op u.form w.op o (unit_proper w.place u w.at) w.op_at in
       let few : list_any (λ h. nat_lt 8 (length h.params)) (map (λ q. q.sig) os) ≡ false =
       sym (ap (list_any (λ h. nat_lt 8 (length h.params))) (heads-of u.form w.op o w.op_at)) ∙ (or_parts (numbers_break u.form) _ parts.0).1 in
-      let calls : AreClear (above (in_call s c)) (block_calls o.block) = λ d h.
-      subst (λ x. IsClear x (c ∷ s.chain) d) (sym same)
-      (clear-next z s.chain c d (no-ring p meets work) clear (ap (λ x. is_in (calls_by x) d) e ∙ h)
-      (leads-somewhere p meets work w.place u w.at d (owned-calls p meets work c o w d h))) in
-      let deep : 3 * (64 - 0) ≤ (above (in_call s c)).room = omega arith in
+      let s = spot_of z (c ∷ chain) in
+      let calls : AreClear s (block_calls o.block) = λ d h.
+      clear-next z chain c d (no-ring p meets work) clear (ap (λ x. is_in (calls_by x) d) e ∙ h)
+      (leads-somewhere p meets work w.place u w.at d (owned-calls p meets work c o w d h)) in
+      let deep : 3 * (64 - 0) ≤ s.room = omega arith in
       record {
-        block = fits_block (above (in_call s c)) 0 (scope p u.form (op_body o)) o.block deep refl proper.3 (fault_at p u.form os w.op o w.op_at
-            fault) works calls;
+        block = fits_block s 0 (scope p u.form (op_body o)) o.block deep refl proper.3 (fault_at p u.form os w.op o w.op_at fault) works calls;
         few = few_at os w.op o w.op_at few;
-        room = subst (λ x. calls_room (c ∷ s.chain) x + call_room (length (data_by (target_in x c))) o
-            ≤ calls_room s.chain x) (sym same) (room-taken s.chain c z o clear.1 e);
+        room = room-taken chain c z o clear.1 e;
       }
 
   task_body : (w : Timing) (i : ℕ) (name : Name) (priority : ℕ) (vars : List Datum) (block : Statements)
@@ -302,7 +286,7 @@ module _ (p : Program) (meets : MeetsRules p) (proper : IsProperProgram limits p
   can-run t at among =
       let b = task_body t.timing t.unit t.name.now t.priority t.«data».now (block_of_thread t) at in
       let body : Body = record { params = params_of t; locals = []; block = block_of_thread t } in
-      let s = above (block_place t).spot in
+      let s = spot_of (system_of t) [] in
       let calls : AreClear s (block_calls (block_of_thread t))
       = λ d h. subst (λ x. IsClear x [] d) (sym among) (b.calls d h, refl, λ path to leads. refl) in
       let deep : 3 * (64 - 0) ≤ s.room = omega arith in

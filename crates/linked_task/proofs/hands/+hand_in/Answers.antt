@@ -1,6 +1,7 @@
-use Rattle.std.proofs.Common.{◌≡◌, List, [], ◌∷◌, length, ap, refl, sym, subst, rules, arith}
+use Rattle.std.proofs.Common.{◌≡◌, List, [], ◌∷◌, length, ap, refl, sym, ◌∙◌, subst, rules, arith}
 use Rattle.std.proofs.lemmas.List.{length-append}
 use Rattle.std.proofs.lemmas.Option.{slice_get_read}
+use Rattle.seq_tree.specs.Values.{value}
 use Rattle.linked.specs.Nodes.{IsBelow, Links}
 use Rattle.linked.specs.declared.code.Node.{Node}
 use Rattle.linker.specs.Standing.{lists_of}
@@ -69,14 +70,15 @@ returns-in-In t c =
     let lt = values_here (lists_of c.args.code.now) c.args.first c.args.params.now c.in-Some.param.now c.in-Some.params.now here c.in-In.is
     c.requires.there in
     let items = c.args.code.now.actuals.items in
-    hand_step (lists_of c.args.code.now) c.args.first c.args.params.now c.in-Some.param.now c.in-Some.params.now here c.in-In.is c.args.slots.now
+    hand_step (lists_of c.args.code.now) c.args.first c.args.params.now c.in-Some.param.now c.in-Some.params.now here c.in-In.is c.args.slots.now.here
     c.args.values.now c.push.new.self c.hand_in.new.values c.value_at.result c.index.result.now
     (slice_get_read items (length items) c.args.first c.index.result.now refl lt c.index.ensures) c.push.ensures
-    (λ e scope k. c.value_at.ensures e scope (subst (λ (ns : List Node). Links ns scope c.index.result.now e) (sym c.deref.ensures.value) k))
+    (λ e scope k. c.value_at.ensures e scope (subst (λ (ns : List Node). Links ns scope c.index.result.now e) (sym c.deref.ensures.value) k)
+    ∙ ap (value e) (c.here.ensures scope))
     c.hand_in.ensures
 
 pub returns-in-Out : goal.returns-in-Out
 returns-in-Out t c =
     let here : c.args.params.now ≡ c.in-Some.param.now ∷ c.in-Some.params.now = search rules in
-    past_step (lists_of c.args.code.now) c.args.first c.args.params.now c.in-Some.param.now c.in-Some.params.now here c.in-Out.is c.args.slots.now
-    c.args.values.now c.hand_in-in-Out.new.values c.hand_in-in-Out.ensures
+    past_step (lists_of c.args.code.now) c.args.first c.args.params.now c.in-Some.param.now c.in-Some.params.now here c.in-Out.is
+    c.args.slots.now.here c.args.values.now c.hand_in-in-Out.new.values c.hand_in-in-Out.ensures

@@ -1,5 +1,4 @@
-use Rattle.std.proofs.Common.{◌≡◌, ◌-◌, ◌∷◌, ◌++◌, ◌∙◌, rules, ap, sym, get_or}
-use Rattle.std.proofs.lemmas.Option.{unwrap_or-slice_get}
+use Rattle.std.proofs.Common.{◌≡◌, ◌∷◌, ◌++◌, ◌∙◌, rules, ap}
 use Rattle.seq_tree.specs.Operations.{out_names}
 use Rattle.seq_tree.specs.Variables.{reads}
 use Rattle.linked.specs.Slots.{vars_at}
@@ -11,15 +10,14 @@ use Rattle.linked_task.proofs.hands.+hand_out.Goals as goal
 pub returns-in-In : goal.returns-in-In
 returns-in-In t c = λ ns e.
     let here : c.args.params.now ≡ c.in-Some.param.now ∷ c.in-Some.params.now = search rules in
-    hands_in c.args.params.now c.in-Some.param.now c.in-Some.params.now here c.requires.distinct c.args.top c.args.slots.now c.args.values.now
+    hands_in c.args.params.now c.in-Some.param.now c.in-Some.params.now here c.requires.distinct c.args.top c.args.slots.now.here c.args.values.now
     c.hand_out.new.values ns e c.in-In.is (c.hand_out.ensures ns)
 
 pub returns-in-Out : goal.returns-in-Out
 returns-in-Out t c = λ ns e.
     let ps = c.in-Some.params.now in
     let here : c.args.params.now ≡ c.in-Some.param.now ∷ ps = search rules in
-    let at = c.args.top - 1 in
-    hands_out c.args.params.now c.in-Some.param.now ps here c.requires.distinct c.args.top c.args.slots.now c.args.values.now
-    c.hand_out-in-Out.new.values ns e (get_or c.args.slots.now at 0) c.in-Out.is (sym (unwrap_or-slice_get c.args.slots.now at 0))
+    hands_out c.args.params.now c.in-Some.param.now ps here c.requires.distinct c.args.top c.args.slots.now.here c.args.values.now
+    c.hand_out-in-Out.new.values ns e c.get.result c.in-Out.is c.get.ensures
     (λ e'. c.hand_out-in-Out.ensures ns e'
-    ∙ ap (λ z. z ++ reads (out_names ps) (vars_at (slots_of (param_names ps ++ ns)) c.args.slots.now)) c.push.ensures)
+    ∙ ap (λ z. z ++ reads (out_names ps) (vars_at (slots_of (param_names ps ++ ns)) c.args.slots.now.here)) c.push.ensures)

@@ -1,6 +1,5 @@
 use Rattle.std.proofs.Common.{◌≡◌, ◌∙◌, sym, ap, arith}
 use Rattle.std.specs.Prelude.{drop}
-use Rattle.std.proofs.lemmas.Option.{unwrap_or-slice_get}
 use Rattle.seq_tree.specs.declared.tree.Datum.{Datum}
 use Rattle.linked.specs.Slots.{vars_at}
 use Rattle.linker.specs.Programs.{datum_names}
@@ -17,8 +16,8 @@ data-preserved c =
     record {
       within = omega (arith, i.within);
       count = omega (arith, i.count, room);
-      vars = kept_step ds c.data.at _ c.index-data-at.result c.args.slots.now c.data.into.items c.push_reserved.new.self.items c.data-test.true
-          i.within c.index-data-at.is (sym (ap (λ (d : Datum). d.name) c.index-data-at.is)) (sym (unwrap_or-slice_get c.args.slots.now _ 0))
+      vars = kept_step ds c.data.at _ c.index-data-at.result c.args.slots.now.here c.data.into.items c.push_reserved.new.self.items c.data-test.true
+          i.within c.index-data-at.is (sym (ap (λ (d : Datum). d.name) c.index-data-at.is)) c.get.ensures
           c.push_reserved.ensures.items i.vars;
       room = c.push_reserved.ensures.capacity ∙ i.room;
     }
@@ -26,5 +25,5 @@ data-preserved c =
 pub returns-clause-kept : goal.returns-clause-kept
 returns-clause-kept c = λ ns distinct.
     let none : c.data.at ≡ 0 = omega (arith, c.data-test.false) in
-    c.data.invariant.vars ∙ ap (λ k. vars_at (slots_of (datum_names (drop k c.args.«data».now))) c.args.slots.now) none
-    ∙ sym (kept_slots ns c.args.«data».now c.args.slots.now distinct)
+    c.data.invariant.vars ∙ ap (λ k. vars_at (slots_of (datum_names (drop k c.args.«data».now))) c.args.slots.now.here) none
+    ∙ sym (kept_slots ns c.args.«data».now c.args.slots.now.here distinct)

@@ -10,7 +10,7 @@ abbrev pub invariant-data : goal.invariant-data
 invariant-data l = record {
   within : l.at ≤ length l.«data»;
   count : vec_len l.into + l.at ≡ length l.«data»;
-  vars : vars_of l.into.items ≡ vars_at (slots_of (datum_names (drop l.at l.«data»))) l.slots;
+  vars : vars_of l.into.items ≡ vars_at (slots_of (datum_names (drop l.at l.«data»))) l.slots.here;
   room : vec_capacity l.into ≡ vec_capacity l.fn.into;
 }
 

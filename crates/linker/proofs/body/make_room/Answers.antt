@@ -6,7 +6,7 @@ use Rattle.linker.proofs.Bodying.{roomed_none, roomed_one}
 use Rattle.linker.proofs.body.make_room.Goals as goal
 
 pub places-init : goal.places-init
-places-init c = record { within = omega arith; room = roomed_none (lists_of c.args.code.now) _ (omega arith) }
+places-init c = record { within = omega arith; room = roomed_none (lists_of c.args.code.now) _ _ (omega arith) c.reserve.ensures.items refl refl }
 
 pub places-preserved : goal.places-preserved
 places-preserved c =

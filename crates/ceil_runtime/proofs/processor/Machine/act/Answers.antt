@@ -1,15 +1,15 @@
 use Rattle.std.proofs.Common.{◌≡◌, arith, false, set, subst, sym, true}
-use Rattle.task_runtime.specs.Works.{task_of}
+use Rattle.linked_task.specs.Works.{task_of}
 use Rattle.task_runtime.specs.Written.{system_of}
 use Rattle.task_runtime.specs.declared.effects.Act.TheVariants.{Keep, Open, Print}
-use Rattle.task_runtime.specs.declared.effects.Deed.TheVariants.{Own}
+use Rattle.linked_task.specs.declared.piece.Deed.TheVariants.{Own}
 use Rattle.ceil_runtime.specs.Acted.{with_tasks}
 use Rattle.ceil_runtime.specs.Shown.{snapshot_of}
 use Rattle.ceil_runtime.specs.Stepping.{Steps}
 use Rattle.ceil_runtime.specs.declared.processor.Told.TheVariants.{Nothing, One}
 use Rattle.ceil_runtime.proofs.ActedLaws.{acted-among, acted-found, acted-within, keep-acted, open-acted, print-acted, silent-acted}
 use Rattle.ceil_runtime.proofs.Phases.{doing-piece, doing-there}
-use Rattle.task_runtime.proofs.Shared.AtWork.{reached-act, stays-own}
+use Rattle.linked_task.proofs.Shared.AtWork.{reached-act, stays-own}
 use Rattle.trace_tree.specs.declared.event.Event.TheVariants as event
 use Rattle.ceil_runtime.proofs.processor.Machine.act.Goals as goal
 
@@ -21,7 +21,7 @@ own_effect-requires-clause-piece c = doing-piece (snapshot_of c.args.self.now) c
 
 pub own_effect-requires-clause-outside : goal.own_effect-requires-clause-outside
 own_effect-requires-clause-outside c = λ t there.
-    stays-own (system_of t.progress.stack.thread) c.args.piece
+    stays-own c.args.self.now.code c.args.piece
     (doing-there (snapshot_of c.args.self.now) c.args.task c.args.piece Own c.requires.does t there).deed
 
 pub returns-in-Silent : goal.returns-in-Silent

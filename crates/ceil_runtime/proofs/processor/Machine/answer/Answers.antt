@@ -2,7 +2,8 @@ use Rattle.std.proofs.Common.{ap, arith, sym, ◌∙◌}
 use Rattle.task_runtime.specs.Readies.{is_ready}
 use Rattle.task_runtime.specs.declared.effects.Act.TheVariants.{Ended}
 use Rattle.ceil_runtime.specs.Shown.{snapshot_of}
-use Rattle.ceil_runtime.proofs.ActedLaws.{acted-among, acted-few, acted-within, answered-acted, left-found, left-free, left-next, left-works}
+use Rattle.ceil_runtime.proofs.ActedLaws.{acted-among, acted-few, acted-within, answered-acted, left-at-work, left-found, left-free}
+use Rattle.ceil_runtime.proofs.ActedLaws.{left-next, left-works}
 use Rattle.ceil_runtime.proofs.ActedLaws.{unserved-acted}
 use Rattle.ceil_runtime.proofs.EntrySteps.{waits-open}
 use Rattle.ceil_runtime.proofs.processor.Machine.answer.Goals as goal
@@ -48,6 +49,15 @@ release-requires-clause-near c =
     c.index_mut-active.ensures.value c.go_outside.new.self c.go_outside.ensures.progress c.go_outside.ensures.task c.index_mut-asked.result.now
     c.index_mut-asked.ensures.value)
 
+pub release-requires-clause-at_work : goal.release-requires-clause-at_work
+release-requires-clause-at_work c =
+    let r = c.requires.acted in
+    let s = snapshot_of c.args.self.now in
+    let x = c.index_mut-active.result.now in
+    left-at-work r.0 s c.args.task c.args.target c.args.value r.1 x _ _ (left-found r.0 s c.args.task c.args.target c.args.value r.1 r.2 r.3 x
+    c.index_mut-active.ensures.value c.go_outside.new.self c.go_outside.ensures.progress c.go_outside.ensures.task c.index_mut-asked.result.now
+    c.index_mut-asked.ensures.value)
+
 pub release-requires-clause-few : goal.release-requires-clause-few
 release-requires-clause-few c =
     let r = c.requires.acted in
@@ -81,4 +91,4 @@ returns c = λ ts t t' acted.
     answered-acted ts s c.args.task c.args.target c.args.value t x _ _ (left-found ts s c.args.task c.args.target c.args.value t t' acted x
     c.index_mut-active.ensures.value c.go_outside.new.self c.go_outside.ensures.progress c.go_outside.ensures.task c.index_mut-asked.result.now
     c.index_mut-asked.ensures.value) (sym c.is_served.ensures ∙ c.if-not-is_served.false) c.release.new.self c.release.ensures.task
-    c.release.ensures.thread c.release.ensures.works c.push_tail.new.self c.push_tail.ensures
+    c.release.ensures.thread c.release.ensures.works c.release.ensures.at_work c.push_tail.new.self c.push_tail.ensures

@@ -3,18 +3,17 @@ use Rattle.std.specs.Prelude.{nat_lt}
 use Rattle.std.proofs.lemmas.Option.{same_Some, slice_get_read}
 use Rattle.machine.specs.Deeds as deeds
 use Rattle.machine.specs.States.{Control}
-use Rattle.task_runtime.specs.Written.{system_of}
 use Rattle.task_runtime.specs.declared.effects.Act.TheVariants as acts
-use Rattle.task_runtime.specs.declared.effects.Deed.TheVariants.{Ask}
+use Rattle.linked_task.specs.declared.piece.Deed.TheVariants.{Ask}
 use Rattle.ceil_runtime.specs.Acted.{with_tasks}
 use Rattle.ceil_runtime.specs.Shown.{snapshot_of}
 use Rattle.ceil_runtime.specs.Stepping.{Steps}
 use Rattle.ceil_runtime.specs.declared.processor.Told.TheVariants.{Nothing}
 use Rattle.ceil_runtime.proofs.ActedLaws.{acted-asks, acted-found, acted-whole, acted-within, ask-acted}
-use Rattle.ceil_runtime.proofs.EntrySteps.{doing-act, stop-reached}
+use Rattle.ceil_runtime.proofs.EntrySteps.{doing-act, doing-first, stop-reached}
 use Rattle.ceil_runtime.proofs.Phases.{doing-here, doing-known, doing-piece, doing-there}
 use Rattle.ceil_runtime.proofs.Reached.{among-tasks, asked-ceiling, asked-unit}
-use Rattle.task_runtime.proofs.Shared.AtWork.{has-room, stays-asking}
+use Rattle.linked_task.proofs.Shared.AtWork.{has-room, stays-asking}
 use Rattle.ceil_runtime.proofs.processor.Machine.ask.Goals as goal
 
 pub index-asked-requires : goal.index-asked-requires
@@ -22,7 +21,7 @@ index-asked-requires c =
     let w = c.requires.does in
     let m = c.args.self.now in
     let below = among-tasks m.units.now m.tasks.items w.1.acting.whole.sound.calls c.args.task w.0 w.1.here c.args.target
-    (stays-asking (system_of w.0.progress.stack.thread) c.args.piece c.args.target w.1.deed).1 in
+    (stays-asking m.code w.0 (w.1.acting.whole.at_work c.args.task w.0 w.1.here) c.args.piece w.1.piece c.args.target w.1.deed).1 in
     omega (arith, below, m.tasks.ok.0)
 
 pub index-requires : goal.index-requires
@@ -41,9 +40,10 @@ returns-then-is_above c =
     let h = doing-here s c.args.task c.args.piece (Ask k) c.requires.does t c.index.ensures in
     let u = c.index-asked.result.now in
     let below = among-tasks s.units s.tasks h.acting.whole.sound.calls c.args.task t h.here k
-    (stays-asking (system_of t.progress.stack.thread) c.args.piece k h.deed).1 in
+    (stays-asking m.code t (h.acting.whole.at_work c.args.task t h.here) c.args.piece h.piece k h.deed).1 in
     let there = slice_get_read s.tasks (length s.tasks) k u refl below c.index-asked.ensures in
     stop-reached s c.args.task c.args.piece (Ask k) t h (Control k) u.progress.stack.thread.unit c.ceiling_of-ceiling.result [] (deeds.Ask k)
+    (doing-first s c.args.task c.args.piece (Ask k) t h)
     (doing-act s c.args.task c.args.piece (Ask k) t h) (λ vars ps. refl) (asked-unit s.until s.costs s.units s.tasks k u there)
     (asked-ceiling s.until s.costs s.units s.tasks k u there ∙ sym c.ceiling_of-ceiling.ensures) (sym c.is_above.ensures ∙ c.if-is_above.true)
     (inr (record { place = k; task = u; here = there; is_unit = refl })) c.stop.result (c.stop.ensures.told t h.here) _ c.stop.ensures.machine
@@ -56,8 +56,8 @@ own_effect-requires-clause-piece c = doing-piece (snapshot_of c.args.self.now) c
 
 pub own_effect-requires-clause-outside : goal.own_effect-requires-clause-outside
 own_effect-requires-clause-outside c = λ t there.
-    (stays-asking (system_of t.progress.stack.thread) c.args.piece c.args.target
-    (doing-there (snapshot_of c.args.self.now) c.args.task c.args.piece (Ask c.args.target) c.requires.does t there).deed).0
+    let h = doing-there (snapshot_of c.args.self.now) c.args.task c.args.piece (Ask c.args.target) c.requires.does t there in
+    (stays-asking c.args.self.now.code t (h.acting.whole.at_work c.args.task t there) c.args.piece h.piece c.args.target h.deed).0
 
 pub index_mut-requires : goal.index_mut-requires
 index_mut-requires c =
@@ -79,7 +79,7 @@ go_inside-requires c =
     let h = acted-found ts n i (acts.Ask k) a.0 a.1 (acted-asks ts n i c.own_effect.result a.0 a.1 a.2 k
     (doing-there (snapshot_of c.args.self.now) i c.args.piece (Ask k) c.requires.does a.0 a.2.here).reaches) x c.index_mut.ensures.value in
     let d = h.done in
-    has-room a.0 x n.costs d.acts.vars d.acts.pieces d.acts.after d.inside
+    has-room n.code a.0 x n.costs d.acts.vars d.acts.pieces d.at_work d.acts.after d.inside
     ((acted-whole ts n i (acts.Ask k) a.0 x h).sound.kept i a.0 h.here).nested
 
 pub returns : goal.returns
@@ -97,7 +97,7 @@ returns c =
     let was = same_Some t a.0 (sym (doing-here s i c.args.piece (Ask k) c.requires.does t c.index.ensures).here ∙ a.2.here) in
     let u = c.index-asked.result.now in
     let below = among-tasks s.units ts w.acting.whole.sound.calls i a.0 w.here k
-    (stays-asking (system_of a.0.progress.stack.thread) c.args.piece k w.deed).1 in
+    (stays-asking s.code a.0 (w.acting.whole.at_work i a.0 w.here) c.args.piece w.piece k w.deed).1 in
     let there = slice_get_read ts (length ts) k u refl below c.index-asked.ensures in
     let ceiling_is = asked-ceiling n.until n.costs n.units ts k u there ∙ sym c.ceiling_of-ceiling.ensures in
     let low = ap (λ v. nat_lt c.ceiling_of-ceiling.result v.active) (sym was) ∙ sym c.is_above.ensures ∙ c.if-is_above.false in

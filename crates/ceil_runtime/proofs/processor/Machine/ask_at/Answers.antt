@@ -5,14 +5,15 @@ use Rattle.ceil_runtime.specs.Shown.{snapshot_of}
 use Rattle.ceil_runtime.specs.Stepping.{Steps, before_arrival}
 use Rattle.ceil_runtime.specs.declared.processor.Phase.TheVariants.{Arriving}
 use Rattle.ceil_runtime.specs.declared.processor.Told.TheVariants.{One, Two}
-use Rattle.ceil_runtime.proofs.Instants.{kept-step, reached, reached-free, reached-next, reached-works, served-step}
+use Rattle.ceil_runtime.proofs.Instants.{kept-step, reached, reached-at-work, reached-free, reached-next, reached-works, served-step}
 use Rattle.ceil_runtime.proofs.Phases.{in-phase, whole-phase}
 use Rattle.ceil_runtime.proofs.processor.Machine.ask_at.Goals as goal
 
 pub index_mut-asked-requires : goal.index_mut-asked-requires
 index_mut-asked-requires c =
     let s = snapshot_of c.args.self.now in
-    let known = reached s c.args.arrival s.arrivals (whole-phase (before_arrival c.args.arrival s) Arriving c.requires.whole c.requires.phase c.requires.goes_on) c.requires.now
+    let known = reached s c.args.arrival s.arrivals (whole-phase (before_arrival c.args.arrival s) Arriving c.requires.whole c.requires.phase
+    c.requires.goes_on) c.requires.now
     c.args.task c.requires.found in
     omega (arith, known, c.args.self.now.tasks.ok)
 
@@ -24,7 +25,7 @@ returns-in_default c =
     in-phase (before_arrival a s) Arriving c.requires.whole c.requires.phase c.requires.goes_on
     (λ x. Steps x (One (event.Arrive s.time a.task a.value)) (record x { arrivals = s.arrivals; tasks = set s.tasks c.args.task t' }))
     (λ whole. kept-step s a s.arrivals whole c.requires.now c.args.task c.requires.found c.index_mut-asked.result.now c.index_mut-asked.ensures.value
-    t' c.arrive.ensures.task c.arrive.ensures.thread c.arrive.ensures.same c.in_default.not-Waiting)
+    t' c.arrive.ensures.task c.arrive.ensures.thread c.arrive.ensures.same c.arrive.ensures.progress c.in_default.not-Waiting)
 
 pub release-requires-clause-rests : goal.release-requires-clause-rests
 release-requires-clause-rests c = ap is_ready c.in-Waiting.is
@@ -32,21 +33,31 @@ release-requires-clause-rests c = ap is_ready c.in-Waiting.is
 pub release-requires-clause-near : goal.release-requires-clause-near
 release-requires-clause-near c =
     let s = snapshot_of c.args.self.now in
-    reached-next s c.args.arrival s.arrivals (whole-phase (before_arrival c.args.arrival s) Arriving c.requires.whole c.requires.phase c.requires.goes_on) c.requires.now c.args.task
+    reached-next s c.args.arrival s.arrivals (whole-phase (before_arrival c.args.arrival s) Arriving c.requires.whole c.requires.phase
+    c.requires.goes_on) c.requires.now c.args.task
     c.requires.found c.index_mut-asked.result.now c.index_mut-asked.ensures.value c.arrive.new.self c.arrive.ensures.task c.arrive.ensures.thread
     c.arrive.ensures.same
+
+pub release-requires-clause-at_work : goal.release-requires-clause-at_work
+release-requires-clause-at_work c =
+    let s = snapshot_of c.args.self.now in
+    reached-at-work s c.args.arrival s.arrivals (whole-phase (before_arrival c.args.arrival s) Arriving c.requires.whole c.requires.phase
+    c.requires.goes_on) c.requires.now c.args.task c.requires.found c.index_mut-asked.result.now c.index_mut-asked.ensures.value c.arrive.new.self
+    c.arrive.ensures.task c.arrive.ensures.thread c.arrive.ensures.same c.arrive.ensures.progress
 
 pub release-requires-clause-few : goal.release-requires-clause-few
 release-requires-clause-few c =
     let s = snapshot_of c.args.self.now in
-    reached-works s c.args.arrival s.arrivals (whole-phase (before_arrival c.args.arrival s) Arriving c.requires.whole c.requires.phase c.requires.goes_on) c.requires.now c.args.task
+    reached-works s c.args.arrival s.arrivals (whole-phase (before_arrival c.args.arrival s) Arriving c.requires.whole c.requires.phase
+    c.requires.goes_on) c.requires.now c.args.task
     c.requires.found c.index_mut-asked.result.now c.index_mut-asked.ensures.value c.arrive.new.self c.arrive.ensures.task c.arrive.ensures.thread
     c.arrive.ensures.same
 
 pub push_tail-requires : goal.push_tail-requires
 push_tail-requires c =
     let s = snapshot_of c.args.self.now in
-    reached-free s c.args.arrival s.arrivals (whole-phase (before_arrival c.args.arrival s) Arriving c.requires.whole c.requires.phase c.requires.goes_on) c.requires.now c.args.task
+    reached-free s c.args.arrival s.arrivals (whole-phase (before_arrival c.args.arrival s) Arriving c.requires.whole c.requires.phase
+    c.requires.goes_on) c.requires.now c.args.task
     c.requires.found c.index_mut-asked.result.now c.index_mut-asked.ensures.value c.arrive.new.self c.arrive.ensures.task c.arrive.ensures.thread
     c.arrive.ensures.same c.in-Waiting.is
 
@@ -63,4 +74,4 @@ returns c =
     (record x { arrivals = s.arrivals; tasks = set s.tasks i t''; queues = q' }))
     (λ whole. served-step s a s.arrivals whole c.requires.now i c.requires.found c.index_mut-asked.result.now c.index_mut-asked.ensures.value t'
     c.arrive.ensures.task c.arrive.ensures.thread c.arrive.ensures.same c.in-Waiting.is t'' c.release.ensures.task c.release.ensures.thread
-    c.release.ensures.works q' c.push_tail.ensures)
+    c.release.ensures.works c.arrive.ensures.progress c.release.ensures.at_work q' c.push_tail.ensures)

@@ -5,7 +5,7 @@ use Rattle.ceil_runtime.specs.Shown.{snapshot_of}
 use Rattle.ceil_runtime.specs.Stepping.{Steps}
 use Rattle.ceil_runtime.specs.declared.processor.Phase.TheVariants.{Delays, Arriving}
 use Rattle.ceil_runtime.specs.declared.processor.Told.TheVariants.{Nothing, One}
-use Rattle.ceil_runtime.proofs.Instants.{over-step, release-step, woken-next, woken-rests, woken-works}
+use Rattle.ceil_runtime.proofs.Instants.{over-step, release-step, woken-at-work, woken-next, woken-rests, woken-works}
 use Rattle.ceil_runtime.proofs.Phases.{in-phase, whole-phase}
 use Rattle.ceil_runtime.proofs.processor.Machine.delays.Goals as goal
 
@@ -28,6 +28,12 @@ release-requires-clause-rests c =
     woken-rests s (whole-phase s Delays c.requires.whole c.requires.phase c.requires.goes_on) c.in-Some.task c.in-Some.ensures.task _
     c.index_mut-released.ensures.value
 
+pub release-requires-clause-at_work : goal.release-requires-clause-at_work
+release-requires-clause-at_work c =
+    let s = snapshot_of c.args.self.now in
+    woken-at-work s (whole-phase s Delays c.requires.whole c.requires.phase c.requires.goes_on) c.in-Some.task c.in-Some.ensures.task _
+    c.index_mut-released.ensures.value
+
 pub release-requires-clause-near : goal.release-requires-clause-near
 release-requires-clause-near c =
     let s = snapshot_of c.args.self.now in
@@ -45,4 +51,4 @@ returns c =
     in-phase s Delays c.requires.whole c.requires.phase c.requires.goes_on
     (λ x. Steps x (One (event.Release s.time t'.progress.stack.thread.unit t.gate.value)) (record x { tasks = set s.tasks i t'; queues = q' }))
     (λ whole. release-step s whole i c.in-Some.ensures.task t c.index_mut-released.ensures.value t' c.release.ensures.task c.release.ensures.thread
-    c.release.ensures.works c.release.ensures.near q' (c.push_tail.ensures ∙ ap put c.in-Some.ensures.queues))
+    c.release.ensures.works c.release.ensures.near c.release.ensures.at_work q' (c.push_tail.ensures ∙ ap put c.in-Some.ensures.queues))

@@ -1,6 +1,6 @@
-use Rattle.task_runtime.specs.declared.effects.Deed.TheVariants.{Own, Enter, Leave, Ask}
+use Rattle.linked_task.specs.declared.piece.Deed.TheVariants.{Own, Enter, Leave, Ask}
 use Rattle.ceil_runtime.specs.Shown.{snapshot_of}
-use Rattle.ceil_runtime.proofs.Phases.{caller-callees, caller-here, caller-known, doing-of}
+use Rattle.ceil_runtime.proofs.Phases.{caller-at-work, caller-here, caller-known, doing-of}
 use Rattle.std.proofs.Common.{arith}
 use Rattle.ceil_runtime.proofs.processor.Machine.effect.Goals as goal
 
@@ -8,8 +8,8 @@ pub index-requires : goal.index-requires
 index-requires c =
     omega (arith, caller-known (snapshot_of c.args.self.now) c.args.task c.requires.acting, c.args.self.now.tasks.ok.0)
 
-pub deed-requires-clause-callees : goal.deed-requires-clause-callees
-deed-requires-clause-callees c = caller-callees (snapshot_of c.args.self.now) c.args.task c.requires.acting _ c.index.ensures
+pub deed-requires-clause-at_work : goal.deed-requires-clause-at_work
+deed-requires-clause-at_work c = caller-at-work (snapshot_of c.args.self.now) c.args.task c.requires.acting _ c.index.ensures
 
 pub deed-requires-clause-piece : goal.deed-requires-clause-piece
 deed-requires-clause-piece c =

@@ -30,6 +30,9 @@ go_on-requires c = record {
   };
 }
 
+pub due-requires-clause-at_work : goal.due-requires-clause-at_work
+due-requires-clause-at_work c = c.go_on.ensures.1.acting.whole.at_work
+
 pub end_effects-requires-clause-acting : goal.end_effects-requires-clause-acting
 end_effects-requires-clause-acting c = c.go_on.ensures.1.acting
 

@@ -5,7 +5,7 @@ use Rattle.ceil_runtime.specs.declared.processor.Told.TheVariants.{Nothing}
 use Rattle.ceil_runtime.proofs.Effected.{running-free}
 use Rattle.ceil_runtime.proofs.Phases.{caller-here, in-acting, whole-acting}
 use Rattle.ceil_runtime.proofs.Stepped.{end-step}
-use Rattle.task_runtime.proofs.Shared.AtWork.{nothing-due}
+use Rattle.linked_task.proofs.Shared.AtWork.{nothing-due}
 use Rattle.ceil_runtime.proofs.processor.Machine.end_effects.Goals as goal
 
 pub push_head-requires : goal.push_head-requires
@@ -20,4 +20,5 @@ returns c =
     let t = c.index.result.now in
     let here = caller-here s c.args.task c.requires.acting t c.index.ensures in
     in-acting s c.args.task c.requires.acting (λ x. Steps x Nothing (record x { phase = Delays; queues = c.push_head.new.self }))
-    (λ whole. end-step s c.args.task whole t here (nothing-due t (c.requires.none t here)) c.push_head.new.self c.push_head.ensures)
+    (λ whole. end-step s c.args.task whole t here (nothing-due s.code t (whole.at_work c.args.task t here) (c.requires.none t here))
+    c.push_head.new.self c.push_head.ensures)

@@ -32,6 +32,13 @@ release-requires-clause-near c =
     let x = c.index_mut-active.result.now in
     ended-next r.0 s c.args.task r.1 x (acted-found r.0 s c.args.task Finish r.1 r.2 r.3 x c.index_mut-active.ensures.value)
 
+pub release-requires-clause-at_work : goal.release-requires-clause-at_work
+release-requires-clause-at_work c =
+    let r = c.requires.acted in
+    let s = snapshot_of c.args.self.now in
+    let x = c.index_mut-active.result.now in
+    (acted-found r.0 s c.args.task Finish r.1 r.2 r.3 x c.index_mut-active.ensures.value).done.at_work
+
 pub release-requires-clause-few : goal.release-requires-clause-few
 release-requires-clause-few c =
     let r = c.requires.acted in
@@ -60,4 +67,4 @@ returns c = λ ts t t' acted.
     let x = c.index_mut-active.result.now in
     served-acted ts s c.args.task t x (acted-found ts s c.args.task Finish t t' acted x c.index_mut-active.ensures.value) c.in_default.not-Asleep
     c.if-not-active.false c.release.new.self c.release.ensures.task c.release.ensures.thread c.release.ensures.works c.release.ensures.some
-    c.push_tail.new.self c.push_tail.ensures
+    c.release.ensures.at_work c.push_tail.new.self c.push_tail.ensures

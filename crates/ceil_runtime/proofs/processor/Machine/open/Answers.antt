@@ -1,7 +1,7 @@
 use Rattle.std.proofs.Common.{◌≡◌, ℕ, ◌<◌, ◌+◌, sym, ap, subst, ◌∙◌, refl, arith, length, List, [], ◌∷◌, ◌++◌, take}
 use Rattle.std.proofs.lemmas.List.{take_all, take_more, length_push}
 use Rattle.std.proofs.lemmas.Option.{slice_get_read}
-use Rattle.std.specs.Prelude.{None, false, map}
+use Rattle.std.specs.Prelude.{None, false, map, slice_get}
 use Rattle.seq_tree.specs.Variables.{Variables}
 use Rattle.ada_tree.specs.Trees.{unit_of}
 use Rattle.machine.specs.Meanings.{Running}
@@ -14,7 +14,8 @@ use Rattle.ceil_runtime.specs.Reaching.{IsReached}
 use Rattle.ceil_runtime.specs.Starts.{AreOpen, first_slept, opened, system_for}
 use Rattle.law_ceilings.specs.Premises.{MayExclude}
 use Rattle.task_runtime.specs.declared.thread.Thread.{Thread}
-use Rattle.task_runtime.specs.declared.task.Task.{Task}
+use Rattle.linked_task.specs.declared.task.Task.{Task}
+use Rattle.ceil_runtime.proofs.Linked.{linked-here, start-at, start-known}
 use Rattle.ceil_runtime.proofs.ObjectsKept.{opened-objects}
 use Rattle.ceil_runtime.proofs.Started.{open-alike, open-free, open-next, open-none, open-reached, open-running, open-sound, slept-size}
 use Rattle.ceil_runtime.proofs.processor.Machine.open.Goals as goal
@@ -24,19 +25,50 @@ threads-init c =
     let none = c.in_ok-tasks.ensures.items in
     let empty = c.in-Ok.ensures in
     record {
-      opened = subst (λ (ts : List Task). AreOpen c.args.until c.args.units.now [] ts c.in-Ok.links) (sym none) (open-none c.args.until
-          c.args.units.now c.in-Ok.links (ap (λ q. q.ready) empty) (ap (λ q. q.asleep) empty));
+      opened = subst (λ (ts : List Task). AreOpen c.args.until c.args.units.now c.in_ok-code.code [] ts c.in-Ok.links) (sym none) (open-none
+          c.args.until
+          c.args.units.now c.in_ok-code.code c.in-Ok.links (ap (λ q. q.ready) empty) (ap (λ q. q.asleep) empty));
       size = ap (λ q. q.size) empty;
       place = sym (ap length none);
       count = ap length none;
       room = c.in_ok-tasks.ensures.capacity;
     }
 
-pub new-requires-in-threads-clause-runs : goal.new-requires-in-threads-clause-runs
-new-requires-in-threads-clause-runs c =
+pub new-requires-in-threads-clause-works : goal.new-requires-in-threads-clause-works
+new-requires-in-threads-clause-works c =
     (c.requires.start c.threads.thread-index c.thread-item.result
     (slice_get_read c.args.threads.now (length c.args.threads.now) c.threads.thread-index c.thread-item.result refl c.threads-test.true
-    c.thread-item.is)).runs
+    c.thread-item.is)).works
+
+pub index-requires : goal.index-requires
+index-requires c =
+    let i = c.threads.invariant in
+    let at = slice_get_read c.args.threads.now (length c.args.threads.now) c.threads.thread-index c.thread-item.result refl c.threads-test.true
+    c.thread-item.is in
+    let known = start-known c.args.units.now c.args.threads.now c.in_ok-code.code c.in_ok-code.ensures c.requires.alike c.requires.start
+    c.threads.thread-index c.thread-item.result at in
+    omega (arith, known, i.place, i.count, c.in_ok-code.code.tasks.ok.0)
+
+pub new-requires-in-threads-clause-linked : goal.new-requires-in-threads-clause-linked
+new-requires-in-threads-clause-linked c =
+    let at = slice_get_read c.args.threads.now (length c.args.threads.now) c.threads.thread-index c.thread-item.result refl c.threads-test.true
+    c.thread-item.is in
+    linked-here c.args.units.now c.args.threads.now c.in_ok-code.code c.in_ok-code.ensures c.requires.alike c.requires.start c.threads.thread-index
+    c.thread-item.result at
+
+pub new-requires-in-threads-clause-start : goal.new-requires-in-threads-clause-start
+new-requires-in-threads-clause-start c =
+    let i = c.threads.invariant in
+    let items = c.in_ok-code.code.tasks.items in
+    let at = slice_get_read c.args.threads.now (length c.args.threads.now) c.threads.thread-index c.thread-item.result refl c.threads-test.true
+    c.thread-item.is in
+    let known = start-known c.args.units.now c.args.threads.now c.in_ok-code.code c.in_ok-code.ensures c.requires.alike c.requires.start
+    c.threads.thread-index c.thread-item.result at in
+    let place = i.place ∙ i.count in
+    start-at c.args.units.now c.args.threads.now c.in_ok-code.code c.in_ok-code.ensures c.requires.alike c.requires.start c.threads.thread-index
+    c.thread-item.result at c.index.result.now
+    (ap (slice_get items) (sym place) ∙ slice_get_read items (length items) c.threads.task c.index.result.now refl (omega (arith, known, place))
+    c.index.ensures)
 
 pub new-requires-in-threads-clause-long : goal.new-requires-in-threads-clause-long
 new-requires-in-threads-clause-long c =
@@ -48,7 +80,7 @@ pub sleep_first-requires : goal.sleep_first-requires
 sleep_first-requires c =
     let i = c.threads.invariant in
     let known : length c.threads.tasks.items < c.threads.links.size = omega (arith, i.count, i.size, c.threads-test.true) in
-    subst (λ (n : ℕ). IsFree c.threads.links n) (sym i.place) (open-free c.args.until c.args.units.now
+    subst (λ (n : ℕ). IsFree c.threads.links n) (sym i.place) (open-free c.args.until c.args.units.now c.in_ok-code.code
     (take c.threads.thread-index c.args.threads.now) c.threads.tasks.items c.threads.links i.opened known)
 
 pub threads-preserved : goal.threads-preserved
@@ -63,13 +95,16 @@ threads-preserved c =
     = c.sleep_first.ensures ∙ ap (λ n. first_slept th.timing n c.threads.links) i.place in
     let longer = ap length c.push_reserved.ensures.items ∙ length_push c.threads.tasks.items _ in
     record {
-      opened = subst (λ (ths : List Thread). AreOpen c.args.until c.args.units.now ths c.push_reserved.new.self.items c.sleep_first.new.links)
+      opened = subst (λ (ths : List Thread). AreOpen c.args.until c.args.units.now c.in_ok-code.code ths c.push_reserved.new.self.items
+          c.sleep_first.new.links)
           (sym taken)
-          (subst (λ (ts : List Task). AreOpen c.args.until c.args.units.now (take c.threads.thread-index c.args.threads.now ++ th ∷ []) ts
+          (subst (λ (ts : List Task). AreOpen c.args.until c.args.units.now c.in_ok-code.code (take c.threads.thread-index c.args.threads.now ++ th ∷
+          []) ts
           c.sleep_first.new.links) (sym c.push_reserved.ensures.items)
-          (open-next c.args.until c.args.units.now (take c.threads.thread-index c.args.threads.now) c.threads.tasks.items c.threads.links
+          (open-next c.args.until c.args.units.now c.in_ok-code.code (take c.threads.thread-index c.args.threads.now) c.threads.tasks.items
+          c.threads.links
           i.opened _ th
-          c.in_ok-fresh.ensures
+          c.in_ok-fresh.ensures.fresh c.in_ok-fresh.ensures.at_work
           start c.sleep_first.new.links is));
       size = ap (λ q. q.size) is ∙ slept-size th.timing (length c.threads.tasks.items) c.threads.links ∙ i.size;
       place = ap (λ n. n + 1) i.place ∙ sym longer;
@@ -88,17 +123,19 @@ returns-clause-whole c =
     let all = take_all c.threads.thread-index c.args.threads.now (omega (arith, c.threads-test.false)) in
     record {
       sound =
-          open-sound c.args.until c.args.costs c.args.units.now (take c.threads.thread-index c.args.threads.now) c.threads.tasks.items c.threads.links
+          open-sound c.args.until c.args.costs c.args.units.now c.in_ok-code.code (take c.threads.thread-index c.args.threads.now)
+          c.threads.tasks.items c.threads.links
           i.opened c.requires.near (omega (arith, i.count, c.requires.few, c.threads-test.false, c.threads.auto.thread-index-end))
           (omega (arith, i.size, i.count, c.threads-test.false, c.threads.auto.thread-index-end))
           (open-alike c.args.units.now c.args.threads.now c.threads.tasks.items
           (i.opened.threads_are ∙ take_all c.threads.thread-index c.args.threads.now (omega (arith, c.threads-test.false))) c.requires.alike);
-      callees = c.in_ok-callees.ensures;
+      at_work = i.opened.at_work;
       reached =
           subst (λ (σ : List Variables). IsReached (system_by c.args.until c.args.costs us ts)
           (state_by σ c.args.arrivals.now 0 (Effects None) None false ts c.threads.links.ready))
           (sym (found-stores c.in_ok-objects.objects.items (objects_from 0 (map unit_of us)) c.in_ok-objects.ensures))
-          (open-reached c.args.until c.args.costs us (take c.threads.thread-index c.args.threads.now) ts c.threads.links i.opened c.requires.near
+          (open-reached c.args.until c.args.costs us c.in_ok-code.code (take c.threads.thread-index c.args.threads.now) ts c.threads.links i.opened
+          c.requires.near
           (omega (arith, i.count, c.requires.few, c.threads-test.false, c.threads.auto.thread-index-end))
           (omega (arith, i.size, i.count, c.threads-test.false, c.threads.auto.thread-index-end))
           (open-alike us c.args.threads.now ts (i.opened.threads_are ∙ all) c.requires.alike) c.args.arrivals.now
@@ -118,7 +155,8 @@ returns-clause-opens c =
       state = state_by kept c.args.arrivals.now 0 (Effects None) None false ts c.threads.links.ready;
     } in
     ap view stores
-    ∙ open-running c.args.until c.args.costs us (take c.threads.thread-index c.args.threads.now) ts c.threads.links i.opened c.requires.near
+    ∙ open-running c.args.until c.args.costs us c.in_ok-code.code (take c.threads.thread-index c.args.threads.now) ts c.threads.links i.opened
+    c.requires.near
     (omega (arith, i.count, c.requires.few, c.threads-test.false, c.threads.auto.thread-index-end))
     (omega (arith, i.size, i.count, c.threads-test.false, c.threads.auto.thread-index-end))
     (open-alike c.args.units.now c.args.threads.now ts (i.opened.threads_are ∙ take_all c.threads.thread-index c.args.threads.now

@@ -1,15 +1,15 @@
 use Rattle.std.proofs.Common.{arith, refl}
 use Rattle.ceil_runtime.specs.Shown.{snapshot_of}
-use Rattle.ceil_runtime.proofs.Phases.{caller-callees, caller-here, caller-known, caller-works}
+use Rattle.ceil_runtime.proofs.Phases.{caller-at-work, caller-here, caller-known, caller-works}
 use Rattle.ceil_runtime.proofs.processor.Machine.own_effect.Goals as goal
 
 pub index_mut-requires : goal.index_mut-requires
 index_mut-requires c =
     omega (arith, caller-known (snapshot_of c.args.self.now) c.args.task c.requires.acting, c.args.self.now.tasks.ok.0)
 
-pub act-requires-clause-callees : goal.act-requires-clause-callees
-act-requires-clause-callees c =
-    caller-callees (snapshot_of c.args.self.now) c.args.task c.requires.acting _ c.index_mut.ensures.value
+pub act-requires-clause-at_work : goal.act-requires-clause-at_work
+act-requires-clause-at_work c =
+    caller-at-work (snapshot_of c.args.self.now) c.args.task c.requires.acting _ c.index_mut.ensures.value
 
 pub act-requires-clause-ready : goal.act-requires-clause-ready
 act-requires-clause-ready c =
@@ -44,6 +44,7 @@ returns-clause-acted c =
         here = here;
         due = (c.requires.piece t here).2;
         done = record {
+          at_work = c.act.ensures.at_work;
           acts = c.act.ensures.acts;
           thread = c.act.ensures.thread;
           works = c.act.ensures.works;

@@ -50,4 +50,5 @@ returns c =
     }))
     (λ whole. use-step s whole n x.some x.horizon x.wake x.arrival q' c.in-Some.ensures.queues i c.in-Some.ensures.task c.index_mut.result.now
     c.index_mut.ensures.value t' c.use_ticks.ensures.task c.use_ticks.ensures.thread c.use_ticks.ensures.ready
+    c.use_ticks.ensures.progress
     (subst (λ ts. IsWithin ts s.queues.ready n) c.as_slice.ensures.value x.within))

@@ -1,4 +1,4 @@
-use Rattle.std.proofs.Common.{length, ap, ◌∙◌, arith}
+use Rattle.std.proofs.Common.{length, refl, ap, ◌∙◌, arith}
 use Rattle.linked_task.proofs.Callings.{calls, few_handed, frame_fits, inside_amid, inside_stacked, lent_fits, locals_fit, op_there}
 use Rattle.linked_task.proofs.Callings.{opened_all, params_fit, read_op, read_start, start_there, values_at, values_handed}
 use Rattle.linked_task.proofs.Calls.{long_here}
@@ -138,7 +138,7 @@ returns c =
     let away = c.open_params.ensures.away ∙ c.open_data.ensures.away ∙ c.lend.ensures.away ∙ c.enter.ensures.away in
     let long = c.open_params.ensures.len ∙ c.open_data.ensures.len ∙ c.lend.ensures.len ∙ ap length c.enter.ensures.here in
     let hand = values_handed code p h c.args.op c.args.actuals outs e d there c.deref.result.now c.deref.ensures.value c.new-values.result
-    c.hand_in.new.values c.here.result.now c.new-values.ensures c.here.ensures c.hand_in.ensures in
+    c.hand_in.new.values p.stack.slots.here c.new-values.ensures refl c.hand_in.ensures in
     let vars = opened_all code p h c.args.op c.args.actuals outs e d there c.args.lent.now names c.size-away.result c.size-away.ensures
     c.enter.new.self.here
     c.enter.ensures.here c.deref-2.result.now c.deref-2.ensures.value c.open_params.new.slots.here

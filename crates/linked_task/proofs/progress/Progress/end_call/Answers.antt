@@ -45,8 +45,7 @@ pub hand_out-requires-clause-there : goal.hand_out-requires-clause-there
 hand_out-requires-clause-there c =
     let s = c.args.self.now.stack in
     let le = out_fits c.args.code.now s c.requires.at_work.stacked c.pop.new.self.items c.in-Some.frame c.in-Some.ensures.items in
-    let same = ap length c.here.ensures in
-    omega (arith, le, c.len.ensures, c.len-2.ensures, same, c.in-Some.frame.body.op.now.sig.params.ok.0, c.in-Some.frame.body.op.now.locals.ok.0)
+    omega (arith, le, c.len.ensures, c.len-2.ensures, c.in-Some.frame.body.op.now.sig.params.ok.0, c.in-Some.frame.body.op.now.locals.ok.0)
 
 pub leave-requires : goal.leave-requires
 leave-requires c =
@@ -132,7 +131,7 @@ returns c =
     let code = c.args.code.now in
     let p = c.args.self.now in
     let out = values_out code p.stack c.requires.at_work.stacked c.pop.new.self.items c.in-Some.frame c.in-Some.ensures.items c.deref.result.now
-    c.deref.ensures.value c.new-values.result c.hand_out.new.values c.here.result.now _ c.new-values.ensures c.here.ensures
+    c.deref.ensures.value c.new-values.result c.hand_out.new.values p.stack.slots.here _ c.new-values.ensures refl
     (omega (arith, c.len.ensures, c.len-2.ensures, c.in-Some.frame.body.op.now.sig.params.ok.0, c.in-Some.frame.body.op.now.locals.ok.0))
     c.hand_out.ensures in
     let put = c.store.ensures.here in

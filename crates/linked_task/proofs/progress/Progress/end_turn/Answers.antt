@@ -1,27 +1,21 @@
-use Rattle.std.proofs.Common.{◌≡◌, ℕ, List, ◌+◌, length, ap, sym, ◌∙◌, set, get_or, arith}
-use Rattle.std.proofs.lemmas.Option.{unwrap_or-slice_get}
+use Rattle.std.proofs.Common.{◌+◌, ap, ◌∙◌, set, arith}
 use Rattle.linker.specs.declared.code.Ins.TheVariants as ins
-use Rattle.linked.specs.Slots.{slot_at}
 use Rattle.linked_task.proofs.Moves.{amid_behind, count_fits, counts_goes, leaves_goes}
 use Rattle.linked_task.proofs.progress.Progress.end_turn.Goals as goal
 
-pub bounds-here-slot : goal.bounds-here-slot
-bounds-here-slot c =
+pub get-value-requires : goal.get-value-requires
+get-value-requires c =
     let lt = count_fits c.args.code.now c.args.self.now c.requires.at_work c.args.counter c.args.last c.args.start c.requires.piece in
-    let e = ap length c.here.ensures in
-    omega (arith, lt, e)
+    omega (arith, lt)
 
 pub put-requires : goal.put-requires
 put-requires c =
     let lt = count_fits c.args.code.now c.args.self.now c.requires.at_work c.args.counter c.args.last c.args.start c.requires.piece in
     omega (arith, lt)
 
-held : (here seen : List ℕ) (counter : ℕ) → seen ≡ here → get_or seen counter 0 ≡ slot_at here counter
-held here seen counter same = ap (λ xs. get_or xs counter 0) same ∙ sym (unwrap_or-slice_get here counter 0)
-
 pub returns-then-value-last : goal.returns-then-value-last
 returns-then-value-last c =
-    let e = held c.args.self.now.stack.slots.here c.here.result.now c.args.counter c.here.ensures in
+    let e = c.get-value.ensures in
     counts_goes c.args.code.now c.args.self.now c.requires.at_work c.args.counter c.args.last c.args.start c.requires.piece
     (omega (arith, e, c.if-value-last.true)) c.put.new.self c.put.ensures.away
     (c.put.ensures.here ∙ ap (λ v. set c.args.self.now.stack.slots.here c.args.counter (v + 1)) e)
@@ -32,6 +26,6 @@ go_on-requires-clause-amid c =
 
 pub returns-else-value-last : goal.returns-else-value-last
 returns-else-value-last c =
-    let e = held c.args.self.now.stack.slots.here c.here.result.now c.args.counter c.here.ensures in
+    let e = c.get-value.ensures in
     leaves_goes c.args.code.now c.args.self.now c.requires.at_work c.args.counter c.args.last c.args.start c.requires.piece
     (omega (arith, e, c.if-value-last.false)) c.go_on.new.self c.go_on.ensures

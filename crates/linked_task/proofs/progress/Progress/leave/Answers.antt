@@ -1,9 +1,6 @@
-use Rattle.std.proofs.Common.{◌≡◌, ◌++◌, ℕ, true, List, ap, subst, ◌∙◌, arith, length}
-use Rattle.seq_tree.specs.Names.{Name, are_distinct}
+use Rattle.std.proofs.Common.{ℕ, ap, ◌∙◌, arith, length}
 use Rattle.seq_tree.specs.Variables.{kept}
-use Rattle.linked.specs.Slots.{vars_at}
 use Rattle.linker.specs.Programs.{datum_names}
-use Rattle.linker.specs.Scopes.{slots_of}
 use Rattle.task_runtime.specs.Stacked.{vars_of}
 use Rattle.linked_task.specs.Lefts.{vars_left}
 use Rattle.linked_task.proofs.Dones.{returned_inside}
@@ -26,8 +23,7 @@ keep_data-requires-clause-there c =
     let s = c.args.self.now.stack in
     let cases = rw c.as_slice.ensures.value at c.in-Some.ensures.cases in
     let le = out_fits c.args.code.now s c.requires.at_work.stacked c.in-Some.field-0-1.now c.in-Some.frame.now cases.0 in
-    let same = ap length c.here.ensures in
-    omega (arith, le, same)
+    omega (arith, le)
 
 pub returns-clause-does : goal.returns-clause-does
 returns-clause-does c =
@@ -41,11 +37,9 @@ returns-clause-does c =
     let cases = rw c.as_slice.ensures.value at c.in-Some.ensures.cases in
     let vars = f.body.vars.now in
     let data' = vars_of c.keep_data.new.into.items in
-    let keeps = subst (λ slots. (ns : List Name) → are_distinct (ns ++ datum_names vars) ≡ true
-    → data' ≡ kept vars (vars_at (slots_of (ns ++ datum_names vars)) slots)) c.here.ensures c.keep_data.ensures.kept in
     let same = ended_data code p h ends fs f cases.0 c.end_call.result c.end_call.new.self c.end_call.ensures o c.requires.entry in
     returned_inside code p c.end_call.new.self c.end_call.result c.end_call.ensures c.args.entry.object c.args.entry.place data' c.requires.entry
-    (data_kept code p h ends fs f cases.0 data' keeps ∙ ap (λ ds. kept ds (vars_left p)) same)
+    (data_kept code p h ends fs f cases.0 data' c.keep_data.ensures.kept ∙ ap (λ ds. kept ds (vars_left p)) same)
 
 pub returns-clause-names : goal.returns-clause-names
 returns-clause-names c = λ g there.
@@ -58,7 +52,5 @@ returns-clause-names c = λ g there.
     let cases = rw c.as_slice.ensures.value at c.in-Some.ensures.cases in
     let vars = f.body.vars.now in
     let data' = vars_of c.keep_data.new.into.items in
-    let keeps = subst (λ slots. (ns : List Name) → are_distinct (ns ++ datum_names vars) ≡ true
-    → data' ≡ kept vars (vars_at (slots_of (ns ++ datum_names vars)) slots)) c.here.ensures c.keep_data.ensures.kept in
-    data_named code p h ends fs f cases.0 data' (data_kept code p h ends fs f cases.0 data' keeps)
+    data_named code p h ends fs f cases.0 data' (data_kept code p h ends fs f cases.0 data' c.keep_data.ensures.kept)
     ∙ ap datum_names (end_data code p.stack h.stacked fs f cases.0 c.args.entry.object c.args.entry.place c.requires.entry g there)

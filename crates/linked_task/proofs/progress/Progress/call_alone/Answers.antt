@@ -1,0 +1,33 @@
+use Rattle.std.proofs.Common.{length, refl, subst, sym, arith}
+use Rattle.std.proofs.lemmas.Option.{slice_get_read}
+use Rattle.linked_task.specs.Doings.{HasNoOwner}
+use Rattle.linked_task.proofs.Alongs.{call_goes}
+use Rattle.linked_task.proofs.Callings.{op_there}
+use Rattle.linked_task.proofs.Reaching.{none_lent, owner_there}
+use Rattle.linked_task.proofs.progress.Progress.call_alone.Goals as goal
+
+pub index-requires : goal.index-requires
+index-requires c =
+    let p = c.requires.piece in
+    let lt = op_there c.args.code.now c.args.self.now c.requires.at_work c.args.op c.args.actuals p.0 p.1 in
+    omega (arith, lt, c.args.code.now.ops.ok.0)
+
+pub call-requires-clause-lent : goal.call-requires-clause-lent
+call-requires-clause-lent c =
+    let p = c.requires.piece in
+    let code = c.args.code.now in
+    let ops = code.ops.items in
+    let lt = op_there code c.args.self.now c.requires.at_work c.args.op c.args.actuals p.0 p.1 in
+    none_lent code c.args.self.now c.requires.at_work c.args.op c.args.actuals p.0 p.1
+    (subst HasNoOwner (sym (owner_there code c.args.op c.index.result.now
+    (slice_get_read ops (length ops) c.args.op c.index.result.now refl lt c.index.ensures))) c.in_default.is)
+
+pub returns : goal.returns
+returns c =
+    let p = c.requires.piece in
+    let code = c.args.code.now in
+    let ops = code.ops.items in
+    let lt = op_there code c.args.self.now c.requires.at_work c.args.op c.args.actuals p.0 p.1 in
+    call_goes code c.args.self.now c.call.new.self c.args.op c.call.result c.call.ensures
+    (subst HasNoOwner (sym (owner_there code c.args.op c.index.result.now
+    (slice_get_read ops (length ops) c.args.op c.index.result.now refl lt c.index.ensures))) c.in_default.is)

@@ -8,12 +8,13 @@ use Rattle.seq_tree.specs.Marks.{mark_of}
 use Rattle.seq_tree.specs.declared.token.Token.TheVariants as token
 use Rattle.seq_tree.specs.declared.token.Mark.TheVariants as mark
 use Rattle.token_read.specs.Ahead.{Splits, ahead}
-use Rattle.token_read.specs.Behind.{Finds, behind, counted, is_whole, seen}
+use Rattle.token_read.specs.Behind.{Finds, behind, counted, is_whole, lexeme_of, seen}
 use Rattle.token_read.specs.Lexemes.{token_of}
 use Rattle.token_read.specs.Words.{bare}
 use Rattle.token_read.specs.declared.lexemes.Raw.{Raw}
 use Rattle.token_read.specs.declared.lexemes.Word.TheVariants as word
 use Rattle.token_read.specs.declared.lexemes.Lexeme.TheVariants as lexeme
+use Rattle.token_read.specs.declared.tokens_left.Next.TheVariants as next
 use Rattle.token_read.specs.declared.tokens_left.Tokens.{Tokens}
 
 -- a word of a text is folded to lower case, and a kept one is as it is
@@ -56,14 +57,30 @@ seen_some = refl
 counted_some : counted (Some (lexeme.Number 2)) (token.Number 1 ∷ []) ≡ token.Number 2 ∷ token.Number 1 ∷ []
 counted_some = refl
 
--- the first token, then those of the list, then those of the text
-ahead_all : (t : Tokens) → t.next ≡ Some (lexeme.Number 2) → ahead t ≡ token.Number 2 ∷ bare t.listed.now ++ behind t.text.now
-unfolding ahead
-ahead_all t is = ap (λ n. counted n (bare t.listed.now ++ behind t.text.now)) is
+-- the first token as it is held: none, a word of a text, a kept one, a number or a mark
+held_none : lexeme_of next.None ≡ None
+held_none = refl
 
-ahead_none : (t : Tokens) → t.next ≡ None → ahead t ≡ []
+held_raw : (r : Raw) → lexeme_of (next.Raw r) ≡ Some (lexeme.Word (word.Raw r))
+held_raw r = refl
+
+held_kept : (n : Bor _) → lexeme_of (next.Kept n) ≡ Some (lexeme.Word (word.Kept n))
+held_kept n = refl
+
+held_number : lexeme_of (next.Number 7) ≡ Some (lexeme.Number 7)
+held_number = refl
+
+held_sign : lexeme_of (next.Sign mark.Becomes) ≡ Some (lexeme.Sign mark.Becomes)
+held_sign = refl
+
+-- the first token, then those of the list, then those of the text
+ahead_all : (t : Tokens) → t.next ≡ next.Number 2 → ahead t ≡ token.Number 2 ∷ bare t.listed.now ++ behind t.text.now
 unfolding ahead
-ahead_none t is = ap (λ n. counted n (bare t.listed.now ++ behind t.text.now)) is
+ahead_all t is = ap (λ n. counted (lexeme_of n) (bare t.listed.now ++ behind t.text.now)) is
+
+ahead_none : (t : Tokens) → t.next ≡ next.None → ahead t ≡ []
+unfolding ahead
+ahead_none t is = ap (λ n. counted (lexeme_of n) (bare t.listed.now ++ behind t.text.now)) is
 
 -- what reading the first token of a text answers: none only where no token is left, and else the token with the bytes behind it
 rest : Bor (List ℕ)
@@ -84,7 +101,7 @@ finds_none : Finds None (token.Number 1 ∷ []) → ⊥
 finds_none e = cc
 
 -- and of all that is left
-splits_first : (t : Tokens) → t.next ≡ None → Splits (Some (lexeme.Number 2, t)) (token.Number 2 ∷ [])
+splits_first : (t : Tokens) → t.next ≡ next.None → Splits (Some (lexeme.Number 2, t)) (token.Number 2 ∷ [])
 splits_first t is = ap (λ ts. token.Number 2 ∷ ts) (sym (ahead_none t is))
 
 splits_none : Splits None (token.Number 1 ∷ []) → ⊥

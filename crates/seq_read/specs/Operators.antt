@@ -1,6 +1,6 @@
 -- The operators by their classes, and how they are written. The operators of one class may stand in one chain.
 -- The levels are those of ISO/IEC 8652:2012, 4.4 and 4.5; the logical operators don't mix.
-use Rattle.std.specs.Prelude.{Bool, List, [], ◌∷◌, Option, Some, None, is_some, codes, if◌then◌else◌}
+use Rattle.std.specs.Prelude.{Bool, ◌||◌, List, [], ◌∷◌, Option, Some, None, is_some, codes, if◌then◌else◌}
 use Rattle.seq_tree.specs.declared.tree.BinOp.{BinOp}
 use Rattle.seq_tree.specs.declared.tree.BinOp.TheVariants as op
 use Rattle.seq_tree.specs.declared.token.Token.{Token}
@@ -46,6 +46,10 @@ next_operator class (Some t) = sees_operator class t
 -- whether an operator of a class is next
 abbrev pub begins : Class → Option Token → Bool
 begins class o = is_some (next_operator class o)
+
+-- whether an operator of any class is next
+abbrev pub goes_on : Option Token → Bool
+goes_on o = begins Multiplying o || begins Adding o || begins Relational o || begins And o || begins Or o || begins Xor o
 
 -- the class of logical operators that is next, where one is
 unfoldable pub logical_class : Option Token → Class

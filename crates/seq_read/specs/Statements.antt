@@ -130,15 +130,18 @@ if_at expression block =
     (λ _. then_at (word (codes "if")) (λ _. then_at (fixed_at (token.Sign Semicolon)) (λ _.
     pure_at (If (branches_of (arm ∷ arms) other)))))))))
 
+-- what is behind the word that ends the bounds of a loop: its body and its end
+abbrev pub for_behind : Name → ℕ → ℕ → BlockReader → StatementReader
+for_behind name low high block = then_at block (λ b. then_at (word (codes "end")) (λ _. then_at (word (codes "loop"))
+    (λ _. then_at (fixed_at (token.Sign Semicolon)) (λ _. pure_at (For name low high b)))))
+
 -- a loop, by what is read inside it
 unfoldable pub for_at : (Name → Bool) → BlockReader → StatementReader
 for_at is_name block =
     then_at (word (codes "for")) (λ _. then_at (name_at is_name) (λ name. then_at (word (codes "in"))
     (λ _. then_at (word (codes "word")) (λ _. then_at (word (codes "range")) (λ _.
     then_at number_at (λ low. then_at (fixed_at (token.Sign DotDot))
-    (λ _. then_at number_at (λ high. then_at (word (codes "loop")) (λ _. then_at block (λ b.
-    then_at (word (codes "end")) (λ _. then_at (word (codes "loop"))
-    (λ _. then_at (fixed_at (token.Sign Semicolon)) (λ _. pure_at (For name low high b))))))))))))))
+    (λ _. then_at number_at (λ high. then_at (word (codes "loop")) (λ _. for_behind name low high block)))))))))
 
 -- a statement, by what is read of expressions, and where an `if` or a loop begins
 unfoldable pub statement_with : (Name → Bool) → ExpressionReader → StatementReader → StatementReader → Kind → StatementReader

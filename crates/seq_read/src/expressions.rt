@@ -4,11 +4,11 @@ ghost use Rattle.seq_read.specs.Halts.{Gives};
 ghost use Rattle.seq_read.specs.Names.{may_name};
 ghost use Rattle.seq_read.specs.Expressions.{literal_at, variable_at, primary_at, inverse_at, factor_at, chain_at, term_at, simple_at};
 ghost use Rattle.seq_read.specs.Expressions.{comparison_at, relation_at, expression_at};
-ghost use Rattle.seq_read.specs.Levels.{opened_at, operand_at, binary_at};
+ghost use Rattle.seq_read.specs.Levels.{opened_at, operand_at, binary_at, expression_from};
 
 use crate::halt::Halt;
 use crate::names::Text;
-use crate::operators::{Class, begins, logical_class, operator};
+use crate::operators::{Class, begins, goes_on, logical_class, operator};
 use crate::tokens::{mark, name, number, word};
 use seq_tree::{Expr, Mark};
 use std::alloc::Global;
@@ -180,14 +180,19 @@ fn simple(alloc: Global, tokens: Tokens, text: Text, deeper: u32) -> Result<(Exp
     chain(alloc, first, tokens, text, deeper, Class::Adding)
 }
 
-/// A comparison, or one side alone.
+/// A comparison behind its first side, or that side alone.
 #[cycle(levels)]
-#[tactic(auto, unfolding(crate::specs::Expressions::relation_at, crate::specs::Expressions::comparison_at))]
-fn relation(alloc: Global, tokens: Tokens, text: Text, deeper: u32) -> Result<(Expr, Tokens), Halt>
-    ensures { Gives (λ r. (expression_of r.0, ahead r.1)) result (relation_at (may_name text) 32 (opened_at (may_name text) 32 deeper)
-        (ahead tokens.entry)) }
+#[tactic(auto, unfolding(crate::specs::Expressions::comparison_at))]
+fn compared(
+    alloc: Global,
+    left: Expr,
+    tokens: Tokens,
+    text: Text,
+    deeper: u32,
+) -> Result<(Expr, Tokens), Halt>
+    ensures { Gives (λ r. (expression_of r.0, ahead r.1)) result (comparison_at (may_name text) 32 (opened_at (may_name text) 32 deeper)
+        (expression_of left) (ahead tokens.entry)) }
 {
-    let (left, tokens) = simple(alloc, tokens, text, deeper)?;
     if begins(tokens, Class::Relational) {
         binary(alloc, left, tokens, text, deeper, Class::Relational)
     } else {
@@ -195,10 +200,41 @@ fn relation(alloc: Global, tokens: Tokens, text: Text, deeper: u32) -> Result<(E
     }
 }
 
+/// A comparison, or one side alone.
+#[cycle(levels)]
+#[tactic(auto, unfolding(crate::specs::Expressions::relation_at))]
+fn relation(alloc: Global, tokens: Tokens, text: Text, deeper: u32) -> Result<(Expr, Tokens), Halt>
+    ensures { Gives (λ r. (expression_of r.0, ahead r.1)) result (relation_at (may_name text) 32 (opened_at (may_name text) 32 deeper)
+        (ahead tokens.entry)) }
+{
+    let (left, tokens) = simple(alloc, tokens, text, deeper)?;
+    compared(alloc, left, tokens, text, deeper)
+}
+
+/// What operators of all classes make of a first factor.
+#[cycle(levels)]
+#[tactic(auto, unfolding(crate::specs::Levels::expression_from), using(crate::proofs::Chains::logic_steps))]
+fn onward(
+    alloc: Global,
+    first: Expr,
+    tokens: Tokens,
+    text: Text,
+    deeper: u32,
+) -> Result<(Expr, Tokens), Halt>
+    ensures { Gives (λ r. (expression_of r.0, ahead r.1)) result (expression_from (may_name text) 32 (opened_at (may_name text) 32 deeper)
+        (expression_of first) (ahead tokens.entry)) }
+{
+    let (left, tokens) = chain(alloc, first, tokens, text, deeper, Class::Multiplying)?;
+    let (left, tokens) = chain(alloc, left, tokens, text, deeper, Class::Adding)?;
+    let (left, tokens) = compared(alloc, left, tokens, text, deeper)?;
+    chain(alloc, left, tokens, text, deeper, logical_class(tokens))
+}
+
 /// The longest expression at the front, and the tokens after it.
 ///
 /// Parentheses nest at most `deeper` deep, and a chain has at most 32 operators. `Syntax` comes at the token with which no
 /// expression goes on, `TooDeep` at the one with which none within these limits does.
+// Most expressions are one factor, so the classes of operators are gone through only where an operator follows it.
 #[cycle(levels)]
 #[tactic(auto, using(crate::proofs::Chains::expression_steps))]
 pub fn expression(
@@ -209,6 +245,10 @@ pub fn expression(
 ) -> Result<(Expr, Tokens), Halt>
     ensures { Gives (λ r. (expression_of r.0, ahead r.1)) result (expression_at (may_name text) 32 deeper (ahead tokens.entry)) }
 {
-    let (first, tokens) = relation(alloc, tokens, text, deeper)?;
-    chain(alloc, first, tokens, text, deeper, logical_class(tokens))
+    let (first, tokens) = factor(alloc, tokens, text, deeper)?;
+    if goes_on(tokens) {
+        onward(alloc, first, tokens, text, deeper)
+    } else {
+        Ok((first, tokens))
+    }
 }

@@ -1,9 +1,9 @@
-ghost use Rattle.std.specs.Prelude.{◌≡◌};
+ghost use Rattle.std.specs.Prelude.{◌≡◌, Some};
 ghost use Rattle.grammar.specs.Reading.{first, token_at};
 ghost use Rattle.token_read.specs.Ahead.{ahead};
 ghost use Rattle.token_read.specs.Lexemes.{token_of};
 ghost use Rattle.seq_read.specs.Halts.{Gives};
-ghost use Rattle.seq_read.specs.Operators.{begins, logical_class, sees_operator};
+ghost use Rattle.seq_read.specs.Operators.{begins, goes_on, logical_class, sees_operator};
 
 use crate::halt::Halt;
 use seq_tree::{BinOp, Mark};
@@ -21,6 +21,7 @@ pub(crate) enum Class {
 }
 
 /// The operator of a class that a token is.
+#[inline(always)]
 #[tactic(auto, unfolding(crate::specs::Operators::sees_operator))]
 fn operator_of(lexeme: Lexeme, class: Class) -> Option<BinOp>
     ensures { result ≡ sees_operator class (token_of lexeme.entry) }
@@ -63,6 +64,28 @@ pub(crate) fn begins(tokens: Tokens, class: Class) -> bool
 {
     match tokens.first() {
         Some(lexeme) => operator_of(lexeme, class).is_some(),
+        None => false,
+    }
+}
+
+/// Whether a token is an operator of any class.
+fn is_operator(lexeme: Lexeme) -> bool
+    ensures { result ≡ goes_on (Some (token_of lexeme.entry)) }
+{
+    operator_of(lexeme, Class::Multiplying).is_some()
+        || operator_of(lexeme, Class::Adding).is_some()
+        || operator_of(lexeme, Class::Relational).is_some()
+        || operator_of(lexeme, Class::And).is_some()
+        || operator_of(lexeme, Class::Or).is_some()
+        || operator_of(lexeme, Class::Xor).is_some()
+}
+
+/// Whether an operator of any class is next.
+pub(crate) fn goes_on(tokens: Tokens) -> bool
+    ensures { result ≡ goes_on (first (ahead tokens.entry)) }
+{
+    match tokens.first() {
+        Some(lexeme) => is_operator(lexeme),
         None => false,
     }
 }

@@ -87,6 +87,7 @@ pub fn params_from(
         params.push(next)?;
         rest = after;
     }
+    params.shrink_to_fit();
     Ok((params, rest))
 }
 
@@ -121,6 +122,7 @@ pub fn more_data(
         data.push(next)?;
         rest = after;
     }
+    data.shrink_to_fit();
     Ok((data, rest))
 }
 

@@ -6,8 +6,8 @@ ghost use Rattle.seq_read.specs.Halts.{Gives};
 ghost use Rattle.seq_read.specs.Names.{may_name};
 ghost use Rattle.seq_read.specs.Expressions.{expression_at};
 ghost use Rattle.seq_read.specs.Statements.{actuals_at, arm_at, assignment_at, begins_statement, block_at, call_at, else_at, exit_at};
-ghost use Rattle.seq_read.specs.Statements.{further_at, guarded_at, if_at, kind_of, list_at, named_at, next_is_name, null_at, otherwise_at};
-ghost use Rattle.seq_read.specs.Statements.{put_at, statement_at, statement_with, work_at};
+ghost use Rattle.seq_read.specs.Statements.{for_behind, further_at, guarded_at, if_at, kind_of, list_at, named_at, next_is_name, null_at};
+ghost use Rattle.seq_read.specs.Statements.{otherwise_at, put_at, statement_at, statement_with, work_at};
 ghost use Rattle.seq_read.specs.Nesting.{branching_at, looping_at};
 
 use crate::expressions::expression;
@@ -32,6 +32,7 @@ pub(crate) enum Kind {
 }
 
 /// The kind of statement that the next token begins: by its word, or by a name.
+#[inline(always)]
 #[tactic(auto, unfolding(crate::specs::Statements::kind_of))]
 fn kind_of(tokens: Tokens) -> Kind
     ensures { result ≡ kind_of (first (ahead tokens.entry)) }
@@ -54,6 +55,7 @@ fn kind_of(tokens: Tokens) -> Kind
 }
 
 /// Whether a statement is next.
+#[inline(always)]
 #[tactic(auto, unfolding(crate::specs::Statements::begins_statement))]
 fn begins_statement(tokens: Tokens, text: Text) -> bool
     ensures { result ≡ begins_statement (may_name text) (first (ahead tokens.entry)) }
@@ -154,6 +156,7 @@ fn list(alloc: Global, tokens: Tokens, text: Text, deeper: u32) -> Result<(Vec<E
         rest = after;
     }
     let closed = mark(rest, Mark::RightParen)?;
+    actuals.shrink_to_fit();
     Ok((actuals, closed))
 }
 
@@ -285,6 +288,7 @@ fn conditional(
     let ended = word(ended, b"end")?;
     let ended = word(ended, b"if")?;
     let ended = mark(ended, Mark::Semicolon)?;
+    arms.shrink_to_fit();
     let arms = Box::new(alloc, arms)?;
     Ok((Stmt::If { arms, other }, ended))
 }
@@ -298,6 +302,35 @@ fn branching(alloc: Global, tokens: Tokens, text: Text, deeper: u32) -> Result<(
         None => Err(Halt::TooDeep(tokens.len())),
         Some(inner) => conditional(alloc, tokens, text, inner),
     }
+}
+
+/// The body of a loop with these bounds, inside which constructs nest at most `deeper` deep, and the loop's end.
+#[cycle(nesting)]
+fn loop_behind(
+    alloc: Global,
+    tokens: Tokens,
+    text: Text,
+    deeper: u32,
+    name: Name,
+    low: u32,
+    high: u32,
+) -> Result<(Stmt, Tokens), Halt>
+    ensures { Gives (λ r. (statement_of r.0, ahead r.1)) result (for_behind name low high (block_at (may_name text) 32 deeper)
+        (ahead tokens.entry)) }
+{
+    let (body, tokens) = block(alloc, tokens, text, deeper)?;
+    let tokens = word(tokens, b"end")?;
+    let tokens = word(tokens, b"loop")?;
+    let tokens = mark(tokens, Mark::Semicolon)?;
+    Ok((
+        Stmt::For {
+            name,
+            low,
+            high,
+            body,
+        },
+        tokens,
+    ))
 }
 
 /// A loop, inside which constructs nest less deep than `deeper`.
@@ -318,19 +351,7 @@ fn looping(alloc: Global, tokens: Tokens, text: Text, deeper: u32) -> Result<(St
     let tokens = mark(tokens, Mark::DotDot)?;
     let (high, tokens) = number(tokens)?;
     let tokens = word(tokens, b"loop")?;
-    let (body, tokens) = block(alloc, tokens, text, deeper)?;
-    let tokens = word(tokens, b"end")?;
-    let tokens = word(tokens, b"loop")?;
-    let tokens = mark(tokens, Mark::Semicolon)?;
-    Ok((
-        Stmt::For {
-            name,
-            low,
-            high,
-            body,
-        },
-        tokens,
-    ))
+    loop_behind(alloc, tokens, text, deeper, name, low, high)
 }
 
 /// A statement of a kind, inside which constructs nest at most `deeper` deep.
@@ -388,5 +409,6 @@ pub fn block(
         stmts.push(next)?;
         rest = after;
     }
+    stmts.shrink_to_fit();
     Ok((Block { stmts }, rest))
 }

@@ -15,6 +15,7 @@ use std::alloc::Global;
 use token_read::{Item, TokenFault, Tokens, Word};
 
 /// The tokens after this word, which is first.
+#[inline(always)]
 pub fn word<'a>(tokens: Tokens<'a>, text: &[u8]) -> Result<Tokens<'a>, Halt>
     ensures gives { Gives (λ r. (tt, ahead r)) result (fixed_at (token.Word text.now) (ahead tokens.entry)) }
     ensures ample { IfErr result (λ e. e ≡ halt.NoMemory → ⊥) }
@@ -27,6 +28,7 @@ pub fn word<'a>(tokens: Tokens<'a>, text: &[u8]) -> Result<Tokens<'a>, Halt>
 }
 
 /// The tokens after this mark, which is first.
+#[inline(always)]
 pub fn mark(tokens: Tokens, mark: Mark) -> Result<Tokens, Halt>
     ensures gives { Gives (λ r. (tt, ahead r)) result (fixed_at (token.Sign mark) (ahead tokens.entry)) }
     ensures ample { IfErr result (λ e. e ≡ halt.NoMemory → ⊥) }
@@ -39,6 +41,7 @@ pub fn mark(tokens: Tokens, mark: Mark) -> Result<Tokens, Halt>
 }
 
 /// The number that is first, and the tokens after it.
+#[inline(always)]
 pub fn number(tokens: Tokens) -> Result<(u32, Tokens), Halt>
     ensures gives { Gives (λ r. (r.0, ahead r.1)) result (number_at (ahead tokens.entry)) }
     ensures ample { IfErr result (λ e. e ≡ halt.NoMemory → ⊥) }
@@ -63,6 +66,7 @@ pub fn phrase<'a>(tokens: Tokens<'a>, items: &[Item]) -> Result<Tokens<'a>, Halt
 }
 
 /// The word that is first, whatever it is, and the tokens after it.
+#[inline(always)]
 pub fn any_word(tokens: Tokens) -> Result<(Word, Tokens), Halt>
     ensures gives { Gives (λ r. (word_bytes r.0, ahead r.1)) result (word_at (ahead tokens.entry)) }
     ensures ample { IfErr result (λ e. e ≡ halt.NoMemory → ⊥) }

@@ -3,13 +3,13 @@ use Rattle.std.specs.Prelude.{◌≡◌, ◌++◌, List, [], ◌∷◌, Option, 
 use Rattle.seq_tree.specs.declared.token.Token.{Token}
 use Rattle.token_read.specs.declared.lexemes.Lexeme.{Lexeme}
 use Rattle.token_read.specs.declared.tokens_left.Tokens.{Tokens}
-use Rattle.token_read.specs.Behind.{behind, counted}
+use Rattle.token_read.specs.Behind.{behind, counted, lexeme_of}
 use Rattle.token_read.specs.Lexemes.{token_of}
 use Rattle.token_read.specs.Words.{bare}
 
 -- the tokens that are left
 unfoldable pub ahead : Tokens → List Token
-ahead t = counted t.next (bare t.listed.now ++ behind t.text.now)
+ahead t = counted (lexeme_of t.next) (bare t.listed.now ++ behind t.text.now)
 
 -- the first token and those after it, or none
 abbrev pub Splits : Option (Lexeme × Tokens) → List Token → Type 0

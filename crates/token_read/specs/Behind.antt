@@ -7,6 +7,10 @@ use Rattle.seq_tree.specs.Lexis.{Misread, tokens}
 use Rattle.seq_tree.specs.declared.token.Spanned.{Spanned}
 use Rattle.seq_tree.specs.declared.token.Token.{Token}
 use Rattle.token_read.specs.declared.lexemes.Lexeme.{Lexeme}
+use Rattle.token_read.specs.declared.lexemes.Lexeme.TheVariants.{Word, Number, Sign}
+use Rattle.token_read.specs.declared.lexemes.Word.TheVariants as word
+use Rattle.token_read.specs.declared.tokens_left.Next.{Next}
+use Rattle.token_read.specs.declared.tokens_left.Next.TheVariants as next
 use Rattle.token_read.specs.Lexemes.{token_of}
 use Rattle.token_read.specs.Words.{bare}
 
@@ -32,6 +36,14 @@ is_whole bytes = is_some (found_in (tokens bytes))
 abbrev pub seen : Option Lexeme → List Token → List Token
 seen None ts = ts
 seen (Some l) ts = token_of l ∷ ts
+
+-- the first token, where there is one
+abbrev pub lexeme_of : Next → Option Lexeme
+lexeme_of next.None = None
+lexeme_of (next.Raw w) = Some (Word (word.Raw w))
+lexeme_of (next.Kept n) = Some (Word (word.Kept n))
+lexeme_of (next.Number n) = Some (Number n)
+lexeme_of (next.Sign m) = Some (Sign m)
 
 -- a token and others, and none at all where there is no first one
 abbrev pub counted : Option Lexeme → List Token → List Token

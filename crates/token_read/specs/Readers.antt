@@ -1,6 +1,6 @@
 -- Readers of single tokens, and of fixed tokens one after another.
 -- Each takes a token by what it stands for.
-use Rattle.std.specs.Prelude.{ℕ, Bool, true, false, ◌&&◌, nat_le, List, [], ◌∷◌, Option, Some, None, if◌then◌else◌}
+use Rattle.std.specs.Prelude.{ℕ, Bool, true, false, List, [], ◌∷◌, Option, Some, None, if◌then◌else◌}
 use Rattle.grammar.specs.Reading.{Read, then_at, pure_at, token_at}
 use Rattle.seq_tree.specs.Limits.{is_within}
 use Rattle.seq_tree.specs.Names.{Name}

@@ -1,8 +1,9 @@
-ghost use Rattle.std.specs.Prelude.{◌≡◌, ◌+◌, ◌<◌, ◌≤◌, ◌∷◌, [], IfErr, IfOk, length};
+ghost use Rattle.std.specs.Prelude.{◌≡◌, ◌+◌, ◌<◌, ◌≤◌, ◌∷◌, [], false, IfErr, IfOk, length};
 ghost use Rattle.std.specs.List.{prefix_len};
-ghost use Rattle.seq_tree.specs.Lexis.{Other, front_by, is_not_line_feed, is_space, mark_front, name_front, number_front, start_of};
+ghost use Rattle.std.specs.Char.{is_ascii_alphanumeric};
+ghost use Rattle.seq_tree.specs.Lexis.{Other, front_by, goes_on, is_not_line_feed, is_space, longest, mark_front, name_front, number_front, start_of};
 ghost use Rattle.seq_tree.specs.Marks.{mark_of};
-ghost use Rattle.token_read.specs.Fronts.{front_view, start_view};
+ghost use Rattle.token_read.specs.Fronts.{begins_under, front_view, start_view};
 ghost use Rattle.token_read.specs.Outcomes.{Gives};
 ghost use Rattle.token_read.specs.Places.{Fits};
 
@@ -109,7 +110,7 @@ pub(crate) enum Start {
 
 /// Whether a byte is white space: a space, or tab to carriage return.
 #[inline(always)]
-pub(crate) fn is_space(byte: u8) -> bool
+fn is_space(byte: u8) -> bool
     ensures { result ≡ is_space byte }
 {
     byte == b' ' || (b'\t' <= byte && byte <= b'\r')
@@ -144,6 +145,45 @@ fn comment_len(bytes: &[u8]) -> usize
     bytes.iter().take_while(|b| **b != b'\n').count()
 }
 
+/// How far letters and digits go.
+#[inline(always)]
+fn plain_len(bytes: &[u8]) -> usize
+    ensures len { result ≡ prefix_len is_ascii_alphanumeric bytes.now }
+    ensures within { result ≤ length bytes.now }
+{
+    bytes
+        .iter()
+        .take_while(|b| b.is_ascii_alphabetic() || b.is_ascii_digit())
+        .count()
+}
+
+/// Whether bytes begin with an underscore.
+#[inline(always)]
+fn begins_under(bytes: &[u8]) -> bool
+    ensures { result ≡ begins_under bytes.now }
+{
+    match bytes.first() {
+        Some(first) => *first == b'_',
+        None => false,
+    }
+}
+
+/// How far a name goes behind its first letter. Most names have no underscore, so only where one follows is it looked for parts behind it.
+#[inline(always)]
+#[tactic(auto, using(crate::proofs::RunSteps::run_steps))]
+fn name_len(bytes: &[u8]) -> usize
+    ensures longest { result ≡ longest (goes_on is_ascii_alphanumeric false) bytes.now }
+    ensures within { result ≤ length bytes.now }
+{
+    let plain = plain_len(bytes);
+    let (_, behind) = bytes.split_at(plain);
+    if begins_under(behind) {
+        run_len(Part::LetterOrDigit, bytes)
+    } else {
+        plain
+    }
+}
+
 /// What stands at the front of a text that is not empty, at its place.
 #[inline(always)]
 #[tactic(auto, using(crate::proofs::Shared::FrontLaws::fronts))]
@@ -169,7 +209,7 @@ pub(crate) fn front_of<'a>(
             len: comment_len(bytes),
         }),
         Start::Name => {
-            let (name, _) = bytes.split_at(1 + run_len(Part::LetterOrDigit, rest));
+            let (name, _) = bytes.split_at(1 + name_len(rest));
             name_front(place, name)
         }
         Start::Numeral => {

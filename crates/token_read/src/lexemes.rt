@@ -87,11 +87,15 @@ impl Folded {
     }
 }
 
-/// Whether bytes, folded to lower case, are these.
+/// Whether bytes, folded to lower case, are these. Most words that are asked for differ in length, so that is looked at first.
 #[inline(always)]
+#[tactic(auto, using(crate::proofs::WordSteps::word_steps))]
 fn folds_to(bytes: &[u8], text: &[u8]) -> bool
     ensures { result ≡ bytes_eq (str_to_ascii_lowercase bytes.now) text.now }
 {
+    if bytes.len() != text.len() {
+        return false;
+    }
     let mut left = text;
     'bytes: for byte in bytes {
         match left.split_first() {

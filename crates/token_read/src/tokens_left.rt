@@ -1,27 +1,91 @@
-ghost use Rattle.std.specs.Prelude.{◌≡◌, ◌+◌, ◌++◌, ◌<◌, ◌≤◌, ◌==◌, ◌∷◌, [], true, false, IfErr, IfNone, IfOk, IfSome, length, option_map};
+ghost use Rattle.std.specs.Prelude.{◌≡◌, ◌+◌, ◌++◌, ◌<◌, ◌≤◌, ◌==◌, ◌∷◌, [], Some, true, false, IfErr, IfNone, IfOk, IfSome, length};
+ghost use Rattle.std.specs.Prelude.{option_map};
+ghost use Rattle.std.specs.List.{prefix_len};
 ghost use Rattle.seq_tree.specs.Lexis.{plain, tokens};
-ghost use Rattle.token_read.specs.Behind.{Finds, behind, counted, is_whole, seen};
+ghost use Rattle.token_read.specs.Behind.{Finds, behind, counted, is_whole, lexeme_of, seen};
+ghost use Rattle.token_read.specs.Fronts.{is_blank};
 ghost use Rattle.token_read.specs.Outcomes.{Gives};
 ghost use Rattle.token_read.specs.Words.{bare};
 ghost use Rattle.seq_tree.specs.Limits.{ada_limit};
 
 use crate::fault::LexFault;
-use crate::fronts::{Front, front_of, is_space};
-use crate::lexemes::Lexeme;
+use crate::fronts::{Front, front_of};
+use crate::lexemes::{Lexeme, Raw, Word};
 use crate::places::place_past;
-use seq_tree::{Place, Spanned};
+use seq_tree::{Mark, Name, Place, Spanned};
+
+/// The first token, where there is one. It is one enum, and no `Option` of a lexeme with a word in it, since it is handed on with each token,
+/// and each enum in another costs as much again.
+#[derive(Clone, Copy, Debug)]
+pub(crate) enum Next<'a> {
+    None,
+    Raw(Raw<'a>),
+    Kept(&'a Name),
+    Number(u32),
+    Sign(Mark),
+}
+
+impl<'a> Next<'a> {
+    // This token.
+    #[inline(always)]
+    fn of(lexeme: Lexeme<'a>) -> Next<'a>
+        ensures { lexeme_of result ≡ Some lexeme.entry }
+    {
+        match lexeme {
+            Lexeme::Word(Word::Raw(raw)) => Next::Raw(raw),
+            Lexeme::Word(Word::Kept(name)) => Next::Kept(name),
+            Lexeme::Number(value) => Next::Number(value),
+            Lexeme::Sign(mark) => Next::Sign(mark),
+        }
+    }
+
+    // The token, where there is one.
+    #[inline(always)]
+    fn lexeme(self) -> Option<Lexeme<'a>>
+        ensures { result ≡ lexeme_of self.entry }
+    {
+        match self {
+            Next::None => None,
+            Next::Raw(raw) => Some(Lexeme::Word(Word::Raw(raw))),
+            Next::Kept(name) => Some(Lexeme::Word(Word::Kept(name))),
+            Next::Number(value) => Some(Lexeme::Number(value)),
+            Next::Sign(mark) => Some(Lexeme::Sign(mark)),
+        }
+    }
+}
 
 /// The tokens that are left, of a list or of a text. Those of a text are taken from its bytes one by one, without memory.
 #[derive(Clone, Copy, Debug)]
 pub struct Tokens<'a> {
     // The first token, read already; then those of the list, and then those of the text; and how many they are.
-    next: Option<Lexeme<'a>>,
+    next: Next<'a>,
     listed: &'a [Spanned],
     text: &'a [u8],
     count: usize,
     ghost few: { length text.now ≤ ada_limit },
     ghost whole: { is_whole text.now ≡ true },
-    ghost counts: { count ≡ length (counted next (bare listed.now ++ behind text.now)) },
+    ghost counts: { count ≡ length (counted (lexeme_of next) (bare listed.now ++ behind text.now)) },
+}
+
+/// How far spaces go.
+#[inline(always)]
+fn space_len(bytes: &[u8]) -> usize
+    ensures len { result ≡ prefix_len is_blank bytes.now }
+    ensures within { result ≤ length bytes.now }
+{
+    bytes.iter().take_while(|b| **b == b' ').count()
+}
+
+/// What is behind the spaces at the front of a text. Other white space is passed over one byte at a time.
+#[inline(always)]
+#[tactic(auto, using(crate::proofs::RunSteps::space_steps))]
+fn behind_space<'a>(bytes: &'a [u8]) -> &'a [u8]
+    ensures behind { is_whole bytes.entry.now ≡ true → behind bytes.entry.now ≡ behind result.now }
+    ensures whole { is_whole bytes.entry.now ≡ is_whole result.now }
+    ensures less { length result.now ≤ length bytes.entry.now }
+{
+    let (_, left) = bytes.split_at(space_len(bytes));
+    left
 }
 
 /// What stands at the front of a text, a token, or white space or a comment, and the bytes behind it; none where there is a fault.
@@ -35,9 +99,6 @@ fn step_of<'a>(bytes: &'a [u8], first: u8, rest: &'a [u8]) -> Option<(Option<Lex
     ensures less { IfSome result (λ r. length r.1.now < length bytes.entry.now) }
     ensures fault { IfNone result (is_whole bytes.entry.now ≡ false) }
 {
-    if is_space(first) {
-        return Some((None, rest));
-    }
     let start = Place { line: 1, column: 1 };
     match front_of(start, bytes, first, rest) {
         Ok(Front { token, len }) => {
@@ -71,12 +132,12 @@ fn next_of<'a>(bytes: &'a [u8]) -> Option<(Lexeme<'a>, &'a [u8])>
     requires whole { is_whole bytes.now ≡ true }
     ensures { Finds result (behind bytes.entry.now) }
 {
-    let mut left = bytes;
+    let mut left = behind_space(bytes);
     'fronts: while let Some((first, rest)) = left.split_first() {
         let (token, after) = front_and_rest(left, *first, rest);
         match token {
             Some(lexeme) => return Some((lexeme, after)),
-            None => left = after,
+            None => left = behind_space(after),
         }
     }
     None
@@ -101,11 +162,11 @@ fn count_of_whole(bytes: &[u8]) -> Option<usize>
     ensures few { IfSome result (λ n. n ≤ length bytes.now) }
 {
     let mut count = 0;
-    let mut left = bytes;
+    let mut left = behind_space(bytes);
     'fronts: while let Some((first, rest)) = left.split_first() {
         let (token, after) = step_of(left, *first, rest)?;
         count = more(count, token);
-        left = after;
+        left = behind_space(after);
     }
     Some(count)
 }
@@ -152,8 +213,9 @@ impl<'a> Tokens<'a> {
     ghost use Rattle.grammar.specs.Reading.{first};
     ghost use Rattle.token_read.specs.Lexemes.{token_of};
 
-    // The tokens of a list and then those of a text, so many.
-    #[inline(always)]
+    // The tokens of a list and then those of a text, so many. It is long, so it stands by itself, and what looks at the first token is
+    // inlined around it.
+    #[inline(never)]
     #[tactic(auto, unfolding(crate::specs::Ahead::ahead))]
     fn from(listed: &'a [Spanned], text: &'a [u8], count: usize) -> Tokens<'a>
         requires few { length text.now ≤ ada_limit }
@@ -163,7 +225,7 @@ impl<'a> Tokens<'a> {
     {
         if let Some((spanned, others)) = listed.split_first() {
             return Tokens {
-                next: Some(Lexeme::of(&spanned.token)),
+                next: Next::of(Lexeme::of(&spanned.token)),
                 listed: others,
                 text,
                 count,
@@ -171,13 +233,13 @@ impl<'a> Tokens<'a> {
         }
         match next_of(text) {
             Some((lexeme, after)) => Tokens {
-                next: Some(lexeme),
+                next: Next::of(lexeme),
                 listed,
                 text: after,
                 count,
             },
             None => Tokens {
-                next: None,
+                next: Next::None,
                 listed,
                 text,
                 count,
@@ -227,7 +289,7 @@ impl<'a> Tokens<'a> {
     pub fn first(self) -> Option<Lexeme<'a>>
         ensures { option_map token_of result ≡ first (ahead self.entry) }
     {
-        self.next
+        self.next.lexeme()
     }
 
     /// The first token and those after it, where there is one.
@@ -236,7 +298,7 @@ impl<'a> Tokens<'a> {
     pub fn split_first(self) -> Option<(Lexeme<'a>, Tokens<'a>)>
         ensures { Splits result (ahead self.entry) }
     {
-        match self.next {
+        match self.next.lexeme() {
             Some(lexeme) => Some((lexeme, Tokens::from(self.listed, self.text, self.count - 1))),
             None => None,
         }

@@ -60,6 +60,7 @@ pub fn phrase<'a>(tokens: Tokens<'a>, items: &[Item]) -> Result<Tokens<'a>, Toke
 }
 
 /// The tokens after this word, which is first. `Syntax` comes where it isn't.
+#[inline(always)]
 #[tactic(auto, unfolding(crate::specs::Readers::fixed_at))]
 pub fn word<'a>(tokens: Tokens<'a>, text: &[u8]) -> Result<Tokens<'a>, TokenFault>
     ensures gives { Gives (λ r. (tt, ahead r)) result (fixed_at (token.Word text.now) (ahead tokens.entry)) }
@@ -75,6 +76,7 @@ pub fn word<'a>(tokens: Tokens<'a>, text: &[u8]) -> Result<Tokens<'a>, TokenFaul
 }
 
 /// The tokens after this mark, which is first. `Syntax` comes where it isn't.
+#[inline(always)]
 #[tactic(auto, unfolding(crate::specs::Readers::fixed_at))]
 pub fn mark(tokens: Tokens, mark: Mark) -> Result<Tokens, TokenFault>
     ensures gives { Gives (λ r. (tt, ahead r)) result (fixed_at (token.Sign mark) (ahead tokens.entry)) }
@@ -90,6 +92,7 @@ pub fn mark(tokens: Tokens, mark: Mark) -> Result<Tokens, TokenFault>
 }
 
 /// The number that is first, and the tokens after it. `Syntax` comes where there is none.
+#[inline(always)]
 #[tactic(auto, unfolding(crate::specs::Readers::number_at))]
 pub fn number(tokens: Tokens) -> Result<(u32, Tokens), TokenFault>
     ensures gives { Gives (λ r. (r.0, ahead r.1)) result (number_at (ahead tokens.entry)) }
@@ -121,6 +124,7 @@ pub fn number_within(tokens: Tokens, low: u32, high: u32) -> Result<(u32, Tokens
 
 /// The word that is first, whatever it is, and the tokens after it. `Syntax` comes where there is none. A reader of names
 /// tests the word, and refuses it with the tokens that it was first of.
+#[inline(always)]
 #[tactic(auto, unfolding(crate::specs::Readers::word_at))]
 pub fn any_word(tokens: Tokens) -> Result<(Word, Tokens), TokenFault>
     ensures gives { Gives (λ r. (word_bytes r.0, ahead r.1)) result (word_at (ahead tokens.entry)) }
@@ -136,6 +140,7 @@ pub fn any_word(tokens: Tokens) -> Result<(Word, Tokens), TokenFault>
 }
 
 /// Whether the next token is this word.
+#[inline(always)]
 pub fn next_is_word(tokens: Tokens, text: &[u8]) -> bool
     ensures { result ≡ next_is (token.Word text.now) (first (ahead tokens.entry)) }
 {
@@ -149,6 +154,7 @@ pub fn next_is_word(tokens: Tokens, text: &[u8]) -> bool
 }
 
 /// Whether the next token is this mark.
+#[inline(always)]
 pub fn next_is_mark(tokens: Tokens, mark: Mark) -> bool
     ensures { result ≡ next_is (token.Sign mark) (first (ahead tokens.entry)) }
 {
@@ -162,6 +168,7 @@ pub fn next_is_mark(tokens: Tokens, mark: Mark) -> bool
 }
 
 /// Whether the next token is a number.
+#[inline(always)]
 pub fn next_is_number(tokens: Tokens) -> bool
     ensures { result ≡ next_is_number (first (ahead tokens.entry)) }
 {

@@ -9,37 +9,43 @@ use Rattle.seq_read.proofs.expressions.+levels.Given as goal
 
 -- each depth has room for the readers that call one another there
 abbrev pub decreases-paren : goal.decreases-paren
-decreases-paren l = 20 * l.deeper
+decreases-paren l = 24 * l.deeper
 
 abbrev pub decreases-primary : goal.decreases-primary
-decreases-primary l = 20 * l.deeper + 1
+decreases-primary l = 24 * l.deeper + 1
 
 abbrev pub decreases-inverse : goal.decreases-inverse
-decreases-inverse l = 20 * l.deeper + 2
+decreases-inverse l = 24 * l.deeper + 2
 
 abbrev pub decreases-factor : goal.decreases-factor
-decreases-factor l = 20 * l.deeper + 3
+decreases-factor l = 24 * l.deeper + 3
 
 abbrev pub decreases-operand : goal.decreases-operand
-decreases-operand l = 20 * l.deeper + 4 * rank l.class + 4
+decreases-operand l = 24 * l.deeper + 4 * rank l.class + 4
 
 abbrev pub decreases-binary : goal.decreases-binary
-decreases-binary l = 20 * l.deeper + 4 * rank l.class + 5
+decreases-binary l = 24 * l.deeper + 4 * rank l.class + 5
 
 abbrev pub decreases-chain : goal.decreases-chain
-decreases-chain l = 20 * l.deeper + 4 * rank l.class + 6
+decreases-chain l = 24 * l.deeper + 4 * rank l.class + 6
 
 abbrev pub decreases-term : goal.decreases-term
-decreases-term l = 20 * l.deeper + 7
+decreases-term l = 24 * l.deeper + 7
 
 abbrev pub decreases-simple : goal.decreases-simple
-decreases-simple l = 20 * l.deeper + 11
+decreases-simple l = 24 * l.deeper + 11
 
 abbrev pub decreases-relation : goal.decreases-relation
-decreases-relation l = 20 * l.deeper + 15
+decreases-relation l = 24 * l.deeper + 15
+
+abbrev pub decreases-compared : goal.decreases-compared
+decreases-compared l = 24 * l.deeper + 14
+
+abbrev pub decreases-onward : goal.decreases-onward
+decreases-onward l = 24 * l.deeper + 19
 
 abbrev pub decreases-expression : goal.decreases-expression
-decreases-expression l = 20 * l.deeper + 19
+decreases-expression l = 24 * l.deeper + 20
 
 -- the chain so far, and then what is left
 abbrev pub invariant-chain-operators : goal.invariant-chain-operators

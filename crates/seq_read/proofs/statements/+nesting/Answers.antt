@@ -1,7 +1,9 @@
-use Rattle.std.proofs.Common.{sym, ap, map, codes, Ok, option_map, ◌∙◌}
+use Rattle.std.proofs.Common.{sym, ap, map, codes, List, Ok, option_map, ◌∙◌}
 use Rattle.std.proofs.lemmas.List.{map-append}
 use Rattle.seq_tree.specs.Statements.{If}
-use Rattle.seq_tree.specs.Trees.{arm_of, block_of, branches_of, otherwise, statement_of}
+use Rattle.seq_tree.specs.Trees.{arm_of, block_of, branches_of, otherwise, statement_of, statements_of}
+use Rattle.seq_tree.specs.declared.tree.Arm.{Arm}
+use Rattle.seq_tree.specs.declared.tree.Stmt.{Stmt}
 use Rattle.seq_tree.specs.declared.token.Token.TheVariants as token
 use Rattle.token_read.specs.Ahead.{ahead}
 use Rattle.token_read.specs.Readers.{next_is}
@@ -50,7 +52,8 @@ block-returns t c =
     sym c.stmts.invariant
     ∙ onward-ends (begins_statement (may_name c.args.text)) (statement_at (may_name c.args.text) 32 c.args.deeper) close_block
     (map statement_of c.stmts.stmts.items) (ahead c.stmts.rest) (sym c.stmts-test.ensures)
-    ∙ ap (λ b. Ok (b, ahead c.stmts.rest)) (sym (block_of_roll (record { stmts = c.stmts.stmts })))
+    ∙ ap (λ (ss : List Stmt). Ok (statements_of (map statement_of ss), ahead c.stmts.rest)) (sym c.shrink_to_fit.ensures.items)
+    ∙ ap (λ b. Ok (b, ahead c.stmts.rest)) (sym (block_of_roll (record { stmts = c.shrink_to_fit.new.self })))
 
 pub conditional-returns : goal.conditional-returns
 conditional-returns t c =
@@ -62,6 +65,10 @@ conditional-returns t c =
     (ahead c.in_ok-other.ended) (ahead c.in_ok-ended.ended)
     (ahead c.in_ok-ended-2.ended) (ahead c.in_ok-ended-3.ended) c.in_ok-other.ensures c.in_ok-ended.ensures.gives c.in_ok-ended-2.ensures.gives
     c.in_ok-ended-3.ensures.gives
+    ∙ ap (λ (xs : List Arm). Ok (
+      If (branches_of (map arm_of xs) (otherwise (option_map block_of c.in_ok-other.other))),
+      ahead c.in_ok-ended-3.ended,
+    )) (sym c.shrink_to_fit.ensures.items)
     ∙ ap (λ v. Ok (If (branches_of (map arm_of v.items) (otherwise (option_map block_of c.in_ok-other.other))), ahead c.in_ok-ended-3.ended))
     (sym c.in_ok-arms.ensures.ok)
     ∙ ap (λ s. Ok (s, ahead c.in_ok-ended-3.ended)) (sym (if-tree c.in_ok-arms.arms c.in_ok-other.other))

@@ -26,6 +26,9 @@ decreases-block l = 10 * l.deeper + 3
 abbrev pub decreases-guarded : goal.decreases-guarded
 decreases-guarded l = 10 * l.deeper + 4
 
+abbrev pub decreases-loop_behind : goal.decreases-loop_behind
+decreases-loop_behind l = 10 * l.deeper + 4
+
 abbrev pub decreases-other : goal.decreases-other
 decreases-other l = 10 * l.deeper + 4
 

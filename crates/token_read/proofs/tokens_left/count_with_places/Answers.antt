@@ -1,6 +1,6 @@
 use Rattle.std.proofs.Common.{ℕ, ◌++◌, [], option_map, refl, sym, ◌∙◌, arith, length-append}
 use Rattle.std.proofs.lemmas.Result.{err_from_is_err_and}
-use Rattle.seq_tree.specs.Lexis.{tokens, with_token}
+use Rattle.seq_tree.specs.Lexis.{with_token}
 use Rattle.token_read.specs.Behind.{behind}
 use Rattle.token_read.specs.Lexemes.{token_of}
 use Rattle.token_read.proofs.Shared.TokenSteps.{tokens-over, tokens-start, tokens-turn, with_front-none}

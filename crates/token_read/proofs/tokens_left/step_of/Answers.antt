@@ -1,15 +1,7 @@
-use Rattle.std.proofs.Common.{refl, sym, ap, ◌∙◌}
+use Rattle.std.proofs.Common.{◌∙◌}
 use Rattle.token_read.specs.Fronts.{front_view}
-use Rattle.token_read.proofs.Shared.BehindSteps.{fault-some, front-fault, seen-led, space-turn, step-turn}
+use Rattle.token_read.proofs.Shared.BehindSteps.{fault-some, front-fault, seen-led, step-turn}
 use Rattle.token_read.proofs.tokens_left.step_of.Goals as goal
-
-pub returns-then-is_space-clause-behind : goal.returns-then-is_space-clause-behind
-returns-then-is_space-clause-behind c =
-    (space-turn c.args.first c.args.rest.now c.args.bytes.now c.requires.parts (sym c.is_space.ensures ∙ c.if-is_space.true)).1
-
-pub returns-then-is_space-clause-whole : goal.returns-then-is_space-clause-whole
-returns-then-is_space-clause-whole c =
-    (space-turn c.args.first c.args.rest.now c.args.bytes.now c.requires.parts (sym c.is_space.ensures ∙ c.if-is_space.true)).0
 
 pub returns-in-Ok-clause-behind : goal.returns-in-Ok-clause-behind
 returns-in-Ok-clause-behind c = λ whole.

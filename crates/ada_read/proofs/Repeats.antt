@@ -1,7 +1,11 @@
 -- Reading lists, one item at a time.
-use Rattle.std.proofs.Common.{◌≡◌, ℕ, suc, ◌+◌, ◌<◌, ◌≤◌, map, drop, get_or, drop-cons, drop_of_length-le, true, false, List, [], ◌∷◌}
-use Rattle.std.proofs.Common.{◌++◌, length, Ok, Err, codes, refl, sym, ap, ◌∙◌, arith, append-nil}
+use Rattle.std.proofs.Common.{◌≡◌, ◌<◌, map, true, false, List, [], ◌∷◌}
+use Rattle.std.proofs.Common.{◌++◌, length, Ok, Err, codes, refl, sym, ◌∙◌, arith, append-nil}
+use Rattle.std.proofs.lemmas.List.{nil_from_length}
+use Rattle.std.specs.Vec.Iter.{into_iter_items, into_iter_len}
+use Rattle.std.specs.declared.vec.IntoIter.{IntoIter}
 use Rattle.grammar.specs.Reading.{Halt, Read, first, each_at}
+use Rattle.grammar.specs.Reading as reading
 use Rattle.seq_tree.specs.Operations.{Signature, Operation}
 use Rattle.seq_tree.specs.Trees.{signature_of}
 use Rattle.seq_tree.specs.declared.tree.OpSig.{OpSig}
@@ -9,6 +13,9 @@ use Rattle.seq_tree.specs.declared.token.Token.{Token}
 use Rattle.seq_tree.specs.declared.token.Token.TheVariants.{Word}
 use Rattle.ada_tree.specs.Programs as programs
 use Rattle.token_read.specs.Readers.{next_is}
+use Rattle.seq_read.specs.Halts.{Stops}
+use Rattle.seq_read.specs.declared.halt.Halt as code
+use Rattle.seq_read.specs.declared.halt.Halt.TheVariants as halt
 use Rattle.seq_read.proofs.Shared.Takes.{Takes, takes-read}
 use Rattle.seq_read.proofs.Shared.Turns.{with_front, front-none, front-more, front-turn, front-fails, front-ends, turn-shorter}
 use Rattle.ada_read.specs.declared.heads.UnitHead.{UnitHead}
@@ -65,64 +72,64 @@ unfolding heads_at
 head-ends = front-ends (next_is (Word (codes "package"))) head_at
 
 -- ONE FOR EACH
-module _ {X B A : Type 0} (view : X → B) (r : B → List Token → Read Token A) (xs : List X) (i : ℕ) where
-  item_next : (x : X) → i < length xs → x ≡ get_or xs i x → map view (drop i xs) ≡ view x ∷ map view (drop (i + 1) xs)
-  item_next x h e =
-      let one_on : suc i ≡ i + 1 = omega arith in
-      ap (map view) (drop-cons xs i x h ∙ ap (λ y. y ∷ drop (suc i) xs) (sym e)) ∙ ap (λ k. view x ∷ map view (drop k xs)) one_on
+module _ {X B A : Type 0} (view : X → B) (r : B → List Token → Read Token A) where
+  each_turn : (all xs : List X) (front : List A) (ts : List Token) (x : X) (a : A) (rest : List Token) → all ≡ x ∷ xs → r (view x) ts ≡ Ok (a, rest) →
+      with_front (front ++ a ∷ []) (each_at r (map view xs) rest) ≡ with_front front (each_at r (map view all) ts)
+  each_turn all xs front ts x a rest is e = rw (is, e) (sym (front-more front a (each_at r (map view xs) rest)))
 
-  each_turn : (front : List A) (ts : List Token) (x : X) (a : A) (rest : List Token) → i < length xs → x ≡ get_or xs i x
-      → r (view x) ts ≡ Ok (a, rest) →
-      with_front (front ++ a ∷ []) (each_at r (map view (drop (i + 1) xs)) rest) ≡ with_front front (each_at r (map view (drop i xs)) ts)
-  each_turn front ts x a rest h item e = rw (item_next x h item, e) (sym (front-more front a (each_at r (map view (drop (i + 1) xs)) rest)))
-
-  each_fails : (front : List A) (ts : List Token) (x : X) (halt : Halt) → i < length xs → x ≡ get_or xs i x → r (view x) ts ≡ Err halt
-      → with_front front (each_at r (map view (drop i xs)) ts) ≡ Err halt
+  each_fails : (all xs : List X) (front : List A) (ts : List Token) (x : X) (halt : Halt) → all ≡ x ∷ xs → r (view x) ts ≡ Err halt
+      → with_front front (each_at r (map view all) ts) ≡ Err halt
   unfolding with_front
-  each_fails front ts x halt h item e = rw (item_next x h item, e) refl
+  each_fails all xs front ts x halt is e = rw (is, e) refl
 
-  each_ends : (front : List A) (ts : List Token) → length xs ≤ i → with_front front (each_at r (map view (drop i xs)) ts) ≡ Ok (front, ts)
+  each_stops : (all xs : List X) (front : List A) (ts : List Token) (x : X) (e : code.Halt) (whole : Read Token (List A)) → all ≡ x ∷ xs
+      → with_front front (each_at r (map view all) ts) ≡ whole → Stops e (r (view x) ts) → Stops e whole
+  each_stops all xs front ts x (halt.Syntax left) whole is from h = sym from ∙ each_fails all xs front ts x (reading.Syntax left) is h
+  each_stops all xs front ts x (halt.TooDeep left) whole is from h = sym from ∙ each_fails all xs front ts x (reading.TooDeep left) is h
+  each_stops all xs front ts x halt.NoMemory whole is from h = tt
+
+  each_ends : {Z : Type 0} (left : IntoIter X Z) (front : List A) (ts : List Token) → into_iter_len left ≡ 0
+      → with_front front (each_at r (map view (into_iter_items left)) ts) ≡ Ok (front, ts)
   unfolding with_front
-  each_ends front ts h = rw (drop_of_length-le xs h, append-nil) refl
+  each_ends left front ts none = rw (nil_from_length (into_iter_items left) (sym left.rest.ok.0 ∙ none), append-nil) refl
 
 -- the bodies of operations
-pub operation-turn : (sigs : List OpSig) (i : ℕ) (front : List Operation) (ts : List Token) (sig : OpSig) (o : Operation) (rest : List Token)
-    → i < length sigs → sig ≡ get_or sigs i sig →
-    operation_at ada_block_at (signature_of sig) ts ≡ Ok (o, rest) →
-    with_front (front ++ o ∷ []) (operations_at ada_block_at (map signature_of (drop (i + 1) sigs)) rest)
-    ≡ with_front front (operations_at ada_block_at (map signature_of (drop i sigs)) ts)
+pub operation-turn : (all sigs : List OpSig) (front : List Operation) (ts : List Token) (sig : OpSig) (o : Operation) (rest : List Token)
+    → all ≡ sig ∷ sigs → operation_at ada_block_at (signature_of sig) ts ≡ Ok (o, rest) →
+    with_front (front ++ o ∷ []) (operations_at ada_block_at (map signature_of sigs) rest)
+    ≡ with_front front (operations_at ada_block_at (map signature_of all) ts)
 unfolding operations_at
 operation-turn = each_turn signature_of (operation_at ada_block_at)
 
-pub operation-fails : (sigs : List OpSig) (i : ℕ) (front : List Operation) (ts : List Token) (sig : OpSig) (halt : Halt) → i < length sigs
-    → sig ≡ get_or sigs i sig →
-    operation_at ada_block_at (signature_of sig) ts ≡ Err halt
-    → with_front front (operations_at ada_block_at (map signature_of (drop i sigs)) ts) ≡ Err halt
+pub operation-stops : (all sigs : List OpSig) (front : List Operation) (ts : List Token) (sig : OpSig) (e : code.Halt)
+    (whole : Read Token (List Operation)) → all ≡ sig ∷ sigs
+    → with_front front (operations_at ada_block_at (map signature_of all) ts) ≡ whole
+    → Stops e (operation_at ada_block_at (signature_of sig) ts) → Stops e whole
 unfolding operations_at
-operation-fails = each_fails signature_of (operation_at ada_block_at)
+operation-stops = each_stops signature_of (operation_at ada_block_at)
 
-pub operation-ends : (sigs : List OpSig) (i : ℕ) (front : List Operation) (ts : List Token) → length sigs ≤ i
-    → with_front front (operations_at ada_block_at (map signature_of (drop i sigs)) ts) ≡ Ok (front, ts)
+pub operation-ends : {Z : Type 0} (left : IntoIter OpSig Z) (front : List Operation) (ts : List Token) → into_iter_len left ≡ 0
+    → with_front front (operations_at ada_block_at (map signature_of (into_iter_items left)) ts) ≡ Ok (front, ts)
 unfolding operations_at
 operation-ends = each_ends signature_of (operation_at ada_block_at)
 
 -- the bodies of units
-pub body-turn : (heads : List UnitHead) (i : ℕ) (front : List programs.Unit) (ts : List Token) (head : UnitHead) (u : programs.Unit)
-    (rest : List Token) → i < length heads → head ≡ get_or heads i head →
-    body_at ada_block_at (head_of head) ts ≡ Ok (u, rest) →
-    with_front (front ++ u ∷ []) (bodies_at ada_block_at (map head_of (drop (i + 1) heads)) rest)
-    ≡ with_front front (bodies_at ada_block_at (map head_of (drop i heads)) ts)
+pub body-turn : (all heads : List UnitHead) (front : List programs.Unit) (ts : List Token) (head : UnitHead) (u : programs.Unit) (rest : List Token)
+    → all ≡ head ∷ heads → body_at ada_block_at (head_of head) ts ≡ Ok (u, rest) →
+    with_front (front ++ u ∷ []) (bodies_at ada_block_at (map head_of heads) rest)
+    ≡ with_front front (bodies_at ada_block_at (map head_of all) ts)
 unfolding bodies_at
 body-turn = each_turn head_of (body_at ada_block_at)
 
-pub body-fails : (heads : List UnitHead) (i : ℕ) (front : List programs.Unit) (ts : List Token) (head : UnitHead) (halt : Halt) → i < length heads
-    → head ≡ get_or heads i head →
-    body_at ada_block_at (head_of head) ts ≡ Err halt → with_front front (bodies_at ada_block_at (map head_of (drop i heads)) ts) ≡ Err halt
+pub body-stops : (all heads : List UnitHead) (front : List programs.Unit) (ts : List Token) (head : UnitHead) (e : code.Halt)
+    (whole : Read Token (List programs.Unit)) → all ≡ head ∷ heads
+    → with_front front (bodies_at ada_block_at (map head_of all) ts) ≡ whole
+    → Stops e (body_at ada_block_at (head_of head) ts) → Stops e whole
 unfolding bodies_at
-body-fails = each_fails head_of (body_at ada_block_at)
+body-stops = each_stops head_of (body_at ada_block_at)
 
-pub body-ends : (heads : List UnitHead) (i : ℕ) (front : List programs.Unit) (ts : List Token) → length heads ≤ i
-    → with_front front (bodies_at ada_block_at (map head_of (drop i heads)) ts) ≡ Ok (front, ts)
+pub body-ends : {Z : Type 0} (left : IntoIter UnitHead Z) (front : List programs.Unit) (ts : List Token) → into_iter_len left ≡ 0
+    → with_front front (bodies_at ada_block_at (map head_of (into_iter_items left)) ts) ≡ Ok (front, ts)
 unfolding bodies_at
 body-ends = each_ends head_of (body_at ada_block_at)
 
@@ -130,6 +137,6 @@ pub ruleset declaration_steps = (front-none, declaration-shorter, declaration-tu
 
 pub ruleset head_steps = (front-none, head-shorter, head-turn, head-fails, head-ends)
 
-pub ruleset operation_steps = (front-none, operation-turn, operation-fails, operation-ends)
+pub ruleset operation_steps = (front-none, operation-turn, operation-ends)
 
-pub ruleset body_steps = (front-none, body-turn, body-fails, body-ends)
+pub ruleset body_steps = (front-none, body-turn, body-ends)

@@ -10,7 +10,6 @@
 #![tactic(auto)]
 
 mod bodies;
-mod copying;
 mod fault;
 mod fixed_text;
 mod heads;

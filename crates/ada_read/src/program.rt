@@ -74,7 +74,7 @@ fn units<'a>(
     let (heads, tokens) = heads(alloc, tokens)?;
     let tokens = end_of(tokens, name.bytes())?;
     let tokens = body_head(tokens, name)?;
-    let (units, tokens) = bodies(alloc, tokens, &heads)?;
+    let (units, tokens) = bodies(alloc, tokens, heads)?;
     let tokens = end_of(tokens, name.bytes())?;
     Ok((units, tokens))
 }

@@ -15,7 +15,7 @@ pub fn deliver(alloc: Global, design: &[u8]) -> Result<Delivery, Refusal>
     ensures { Delivers design.now result }
 {
     match take(alloc, design) {
-        Ok(checked) => make(alloc, &checked),
+        Ok(checked) => make(alloc, checked),
         Err(Halt::Refused(Untaken::Text(fault))) => Err(Refusal::Text(fault)),
         Err(Halt::Refused(Untaken::Rule(broken))) => Err(Refusal::Rule(broken)),
         Err(Halt::NoMemory) => Err(Refusal::NoMemory),

@@ -1,4 +1,5 @@
-use Rattle.std.proofs.Common.{◌≡◌, map, drop}
+use Rattle.std.proofs.Common.{◌≡◌, map}
+use Rattle.std.specs.Vec.Iter.{into_iter_items}
 use Rattle.ada_tree.specs.Trees.{unit_of}
 use Rattle.token_read.specs.Ahead.{ahead}
 use Rattle.ada_read.specs.Heads.{head_of}
@@ -8,5 +9,5 @@ use Rattle.ada_read.proofs.bodies.bodies.Given as goal
 
 -- the units so far, and then those of the specifications that are left
 abbrev pub invariant-heads : goal.invariant-heads
-invariant-heads l = with_front (map unit_of l.units.items) (bodies_at ada_block_at (map head_of (drop l.head-index l.heads)) (ahead l.rest))
-    ≡ bodies_at ada_block_at (map head_of l.heads) (ahead l.fn.tokens)
+invariant-heads l = with_front (map unit_of l.units.items) (bodies_at ada_block_at (map head_of (into_iter_items l.head-iterator)) (ahead l.rest))
+    ≡ bodies_at ada_block_at (map head_of l.fn.heads.items) (ahead l.fn.tokens)

@@ -8,6 +8,7 @@ ghost use Rattle.seq_cost.specs.Different.{call_of};
 ghost use Rattle.call_graph.specs.Once.{caller_of};
 ghost use Rattle.ods_tree.specs.Links.{resolve};
 ghost use Rattle.ods_tree.specs.Trees.{design_of};
+ghost use Rattle.design_rules.specs.Lookups.{is_sporadic};
 ghost use Rattle.ods_index.specs.Linked.{op_of};
 ghost use Rattle.ods_index.specs.Nodes.{node_object};
 ghost use Rattle.ods_index.specs.Walking.{object_of};
@@ -44,6 +45,19 @@ pub fn targets_of<'a>(alloc: Global, threads: &[&'a Node]) -> Result<Places<'a>,
         add_target(node, &mut names)?;
     }
     Ok(names)
+}
+
+/// Whether one of these threads is sporadic. Where none is, none is started and none is requested.
+#[tactic(auto, using(ods_index::proofs::Shared::WalkSteps::node_steps))]
+pub fn any_sporadic(threads: &[&Node]) -> bool
+    ensures { result ≡ list_any (λ o. is_sporadic o.kind) (map node_object threads.now) }
+{
+    'threads: for node in threads {
+        if is_sporadic(node.kind) {
+            return true;
+        }
+    }
+    false
 }
 
 /// The name by which the way of an operation is found: of all operations of a target one.

@@ -13,4 +13,4 @@ mod held;
 mod keys;
 
 pub use held::{ProtectedBody, bodies_of};
-pub use keys::{add_callers, targets_of, thread_keys};
+pub use keys::{add_callers, any_sporadic, targets_of, thread_keys};

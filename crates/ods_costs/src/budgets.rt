@@ -6,6 +6,7 @@ ghost use Rattle.ods_tree.specs.declared.design.AttrKey.TheVariants.{ThreadBudge
 ghost use Rattle.design_rules.specs.Budgets.{bad_budgets, is_over, over_budget};
 ghost use Rattle.design_rules.specs.Lookups.{has_thread};
 ghost use Rattle.ods_costs.specs.Costed.{over_budgets};
+ghost use Rattle.ods_costs.specs.Pricing.{priced_design};
 ghost use Rattle.ods_index.specs.Indexing.{IsIndex};
 ghost use Rattle.ods_index.specs.Judging.{Tells, head_of};
 ghost use Rattle.ods_index.specs.Walking.{object_of, standing_of};
@@ -92,22 +93,18 @@ fn object_fits<'a>(
     }
 }
 
-/// Tells the first thread whose activation costs more than its budget, and not too much, by what blocks cost.
-fn budgets_fit<'a>(alloc: Global, index: &Index<'a>, priced: &Priced<'a>) -> Result<(), Broken>
-    requires { IsIndex index.now × (design_of priced.now.links.design.now ≡ design_of index.now.design.now) }
-    ensures { Tells result (head_of (bad_budgets (design_of index.now.design.now))) }
+/// V14: tells the first thread whose activation costs more than its budget, and not too much, by what the blocks of the design cost.
+pub fn first_bad_budget<'a>(
+    alloc: Global,
+    index: &Index<'a>,
+    priced: &Priced<'a>,
+) -> Result<(), Broken>
+    requires indexed { IsIndex index.now }
+    requires same { priced_design priced.now ≡ design_of index.now.design.now }
+    ensures { Tells result (head_of (bad_budgets (design_of index.entry.now.design.now))) }
 {
     'objects: for standing in &index.objects {
         object_fits(alloc, priced, standing)?;
     }
     Ok(())
-}
-
-/// V14: tells the first thread whose activation costs more than its budget, and not too much.
-pub fn first_bad_budget(alloc: Global, index: &Index<'_>) -> Result<(), Broken>
-    requires { IsIndex index.now }
-    ensures { Tells result (head_of (bad_budgets (design_of index.entry.now.design.now))) }
-{
-    let priced = Priced::new(alloc, index)?;
-    budgets_fit(alloc, index, &priced)
 }

@@ -35,9 +35,9 @@ impl CallPlaces for Meant<'_, '_> {
     }
 }
 
-/// What the blocks of a design cost.
+/// What the blocks of a design cost, worked out once for all rules that ask for it.
 #[derive(Drop)]
-pub(crate) struct Priced<'a> {
+pub struct Priced<'a> {
     pub(crate) links: Links<'a>,
     places: OpTable<'a, usize>,
     prices: Vec<u32>,
@@ -45,10 +45,13 @@ pub(crate) struct Priced<'a> {
 }
 
 impl<'a> Priced<'a> {
-    /// Works out what calls count.
-    pub(crate) fn new(alloc: Global, index: &Index<'a>) -> Result<Priced<'a>, NoMemory>
+    ghost use Rattle.ods_costs.specs.Pricing.{priced_design};
+
+    /// Works out what the calls of a design count. The time grows as its bodies do, unless there is a ring of calls. `NoMemory` comes for want
+    /// of memory alone.
+    pub fn new(alloc: Global, index: &Index<'a>) -> Result<Priced<'a>, NoMemory>
         requires { IsIndex index.now }
-        ensures { IfOk result (λ p. p.links.design.now ≡ index.now.design.now) }
+        ensures { IfOk result (λ p. priced_design p ≡ design_of index.now.design.now) }
     {
         let services = services_of(alloc, index.objects.as_slice())?;
         let links = Links::new(alloc, index.design)?;

@@ -7,6 +7,7 @@ ghost use Rattle.design_rules.specs.Broken.{V15Objects, V15Threads};
 ghost use Rattle.design_rules.specs.Budgets.{bad_sizes, dear_body, dear_thread, over_limit, thread_limit};
 ghost use Rattle.design_rules.specs.Lookups.{has_thread};
 ghost use Rattle.ods_costs.specs.Costed.{dear_bodies, dear_parts, threads_among};
+ghost use Rattle.ods_costs.specs.Pricing.{priced_design};
 ghost use Rattle.ods_index.specs.Indexing.{IsIndex};
 ghost use Rattle.ods_index.specs.Judging.{Tells, head_of};
 ghost use Rattle.ods_index.specs.Walking.{object_of, standing_of};
@@ -182,12 +183,17 @@ pub(crate) fn costs_fit<'a>(
     Ok(())
 }
 
-/// Tells what is too large of a design, by what its blocks cost: threads, then objects, then the first part that is too dear.
+/// V15: tells what is too large, by what the blocks of the design cost: more threads than there may be, then more objects, then the first part
+/// of an object that is too dear.
 #[tactic(auto, using(ods_index::proofs::Shared::TellSteps::tell_steps))]
-fn sizes_fit<'a>(alloc: Global, index: &Index<'a>, priced: &Priced<'a>) -> Result<(), Broken>
+pub fn first_bad_size<'a>(
+    alloc: Global,
+    index: &Index<'a>,
+    priced: &Priced<'a>,
+) -> Result<(), Broken>
     requires indexed { IsIndex index.now }
     requires few { length (objects (design_of index.now.design.now)) < 4294967296 }
-    requires same { design_of priced.now.links.design.now ≡ design_of index.now.design.now }
+    requires same { priced_design priced.now ≡ design_of index.now.design.now }
     ensures { Tells result (head_of (bad_sizes (design_of index.entry.now.design.now))) }
 {
     let objects = index.objects.as_slice();
@@ -195,14 +201,4 @@ fn sizes_fit<'a>(alloc: Global, index: &Index<'a>, priced: &Priced<'a>) -> Resul
     threads_fit(objects, limit)?;
     count_fits(objects.len())?;
     costs_fit(alloc, priced, objects)
-}
-
-/// V15: tells what is too large: more threads than there may be, then more objects, then the first part of an object that is too dear.
-pub fn first_bad_size(alloc: Global, index: &Index<'_>) -> Result<(), Broken>
-    requires indexed { IsIndex index.now }
-    requires few { length (objects (design_of index.now.design.now)) < 4294967296 }
-    ensures { Tells result (head_of (bad_sizes (design_of index.entry.now.design.now))) }
-{
-    let priced = Priced::new(alloc, index)?;
-    sizes_fit(alloc, index, &priced)
 }

@@ -14,6 +14,7 @@ use Rattle.name_sets.specs.Places.{place_in}
 use Rattle.name_sets.specs.declared.places.Places.{Places}
 use Rattle.ods_rings.specs.Ranked.{sinks, sinks_at, named_caller}
 use Rattle.ods_tree.specs.Designs.{Design, Object}
+use Rattle.design_rules.specs.Lookups.{is_sporadic}
 use Rattle.design_rules.specs.Rings.{IsOnStartRing, StartsThread, calls_within, inner_calls, meant_calls, terminal_ops, thread_objects}
 use Rattle.ods_bodies.specs.Held.{HeldBody, held_bodies, held_calls}
 use Rattle.ods_bodies.specs.Keys.{held_caller, key, keys_in, target_key, thread_keys, has_target, is_target}
@@ -36,7 +37,8 @@ module _ (x : Design) (t : Places) (rank : OpName → ℕ) (bodies : list_any (s
 
   body-rises : (h : HeldBody) → In h (held_bodies x) → (k : OpName) → In k (held_calls x h) → own h.name < own k
   body-rises h at k calls =
-      let body = none-in (sinks rank) (map (held_caller t x) (held_bodies x)) bodies (held_caller t x h) (in-map (held_caller t x) h (held_bodies x) at) in
+      let body = none-in (sinks rank) (map (held_caller t x) (held_bodies x)) bodies (held_caller t x h)
+      (in-map (held_caller t x) h (held_bodies x) at) in
       higher (own h.name) (own k)
       (none-in (sinks_at rank (Some (key t h.name))) (keys_in t x h.needs h.block) body (key t k) (key-listed t x h.needs h.block k calls))
 
@@ -57,7 +59,8 @@ module _ (x : Design) (t : Places) (rank : OpName → ℕ) (bodies : list_any (s
       let r = from-flat (calls_within depth x) k (inner_calls x n) h in
       not-lower (own n) (own r.0) (own k) (inner-rises n r.0 r.1) (within-rises depth r.0 k r.2)
 
-  thread-rises : (o : Object) → In o (thread_objects x) → (k : OpName) → In k (flat_map (meant_calls x o) (option_to_list o.thread)) → named o.name < own k
+  thread-rises : (o : Object) → In o (thread_objects x) → (k : OpName) → In k (flat_map (meant_calls x o) (option_to_list o.thread))
+      → named o.name < own k
   thread-rises o at k calls =
       let caller = none-in (sinks rank) (map (named_caller t x) (thread_objects x)) threads (named_caller t x o)
       (in-map (named_caller t x) o (thread_objects x) at) in
@@ -103,3 +106,22 @@ none-ring x t rank os whole rises aimed a ring =
     (sym (list_any-append (sinks rank) (map (held_caller t x) (held_bodies x)) (map (named_caller t x) os)) ∙ rises) in
     none-started x t rank parts.0 (ap (λ (fs : List Object). list_any (sinks rank) (map (named_caller t x) fs)) (sym whole) ∙ parts.1)
     (λ n. aimed n ∙ ap (λ (fs : List Object). has_target fs n) whole) a ring
+
+-- where no thread is sporadic, none is started
+none-starts : (x : Design) (os : List Object) → os ≡ thread_objects x → list_any (λ o. is_sporadic o.kind) os ≡ false
+    → (a c : Name) → StartsThread x a c → ⊥
+none-starts x os whole none a c h =
+    let d = started x a c h in
+    let is : is_sporadic d.to.kind ≡ false =
+    none-in (λ o. is_sporadic o.kind) (thread_objects x) (ap (λ (fs : List Object). list_any (λ o. is_sporadic o.kind) fs) (sym whole) ∙ none) d.to
+    d.held in
+    let z : true ≡ false = sym d.sporadic ∙ is in cc
+
+-- and none is on a ring of starts
+pub never-ring : (x : Design) (os : List Object) → os ≡ thread_objects x → list_any (λ o. is_sporadic o.kind) os ≡ false
+    → (a : Name) → IsOnStartRing x a → ⊥
+never-ring x os whole none a ring = by ring.0 ring.1
+  where
+    by : (path : List Name) → LeadsTo (StartsThread x) a path a → ⊥
+    by [] h = none-starts x os whole none a a h
+    by (via ∷ path) h = none-starts x os whole none a via h.0

@@ -17,7 +17,7 @@ ghost use Rattle.ods_index.specs.Walking.{object_of};
 
 use crate::rising;
 use name_sets::Places;
-use ods_bodies::{bodies_of, targets_of};
+use ods_bodies::{any_sporadic, bodies_of, targets_of};
 use ods_index::{Broken, Index, Links, OpView, places_of};
 use ods_starts::{Starts, threads_of};
 use ods_tree::Node;
@@ -146,9 +146,12 @@ fn shows_none(alloc: Global, index: &Index<'_>) -> Result<bool, NoMemory>
     requires { IsIndex index.now }
     ensures { IfOk result (λ b. b ≡ true → (a : NameTree) → IsOnStartRing (design_of index.entry.now.design.now) a → ⊥) }
 {
+    let threads = threads_of(alloc, index.objects.as_slice())?;
+    if !any_sporadic(threads.as_slice()) {
+        return Ok(true);
+    }
     let links = Links::new(alloc, index.design)?;
     let bodies = bodies_of(alloc, index.objects.as_slice())?;
-    let threads = threads_of(alloc, index.objects.as_slice())?;
     rising::shows_none(alloc, &links, bodies.as_slice(), threads.as_slice())
 }
 

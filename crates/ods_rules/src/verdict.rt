@@ -1,14 +1,16 @@
-ghost use Rattle.std.specs.Prelude.{◌≡◌, ◌<◌, Some, length, suc};
+ghost use Rattle.std.specs.Prelude.{◌≡◌, ◌<◌, IfOk, IfSome, Some, length, suc};
 ghost use Rattle.ods_tree.specs.Trees.{design_of};
 ghost use Rattle.ods_tree.specs.Walk.{objects};
+ghost use Rattle.design_rules.specs.Budgets.{bad_budgets, bad_sizes};
 ghost use Rattle.design_rules.specs.Rules.{Offends, Version};
 ghost use Rattle.ods_rules.specs.Checks.{Says};
 ghost use Rattle.ods_index.specs.Indexing.{IsIndex};
-ghost use Rattle.ods_index.specs.Judging.{Judges, Passes, PassesBefore};
+ghost use Rattle.ods_index.specs.Judging.{Judges, Passes, PassesBefore, Tells, head_of};
+ghost use Rattle.ods_costs.specs.Pricing.{priced_design};
 ghost use Rattle.ods_rules.specs.Orders.{Verdict, limit, rule_of};
 
 use crate::checked::Checked;
-use ods_costs::{first_bad_budget, first_bad_size};
+use ods_costs::{Priced, first_bad_budget, first_bad_size};
 use ods_forms::{
     first_bad_body, first_bad_fitting, first_bad_include, first_bad_number, first_bad_operation,
     first_bad_version, first_idle_active, set_ticks,
@@ -18,6 +20,7 @@ use ods_names::{first_absent, first_clash, first_forbidden, first_kept_name, fir
 use ods_rings::{first_ringed_object, first_ringed_op, first_ringed_thread};
 use ods_sources::{first_bad_source, first_bad_spacing};
 use ods_tree::Design;
+use seq_tree::NoMemory;
 use std::alloc::Global;
 
 /// The rules in the order of their numbers, but for that on versions.
@@ -69,11 +72,79 @@ fn next(rule: Rule) -> Option<Rule>
     }
 }
 
-/// Tells the first offender against a rule, where no lower one is broken.
-#[tactic(auto, using(crate::proofs::Shared::VerdictLaws::judged_list))]
-fn judge(alloc: Global, index: &Index<'_>, rule: Rule) -> Result<(), Broken>
+/// Whether a rule asks for what blocks cost.
+fn asks_costs(rule: Rule) -> bool {
+    matches!(rule, Rule::Budget | Rule::Size)
+}
+
+/// What the blocks of a design cost, where it was known or the rule that is judged now asks for it.
+fn priced_for<'a>(
+    alloc: Global,
+    index: &Index<'a>,
+    rule: Rule,
+    known: Option<Priced<'a>>,
+) -> Result<Option<Priced<'a>>, NoMemory>
+    requires indexed { IsIndex index.now }
+    requires same { IfSome known (λ p. priced_design p ≡ design_of index.now.design.now) }
+    ensures { IfOk result (λ o. IfSome o (λ p. priced_design p ≡ design_of index.now.design.now)) }
+{
+    if known.is_some() || !asks_costs(rule) {
+        return Ok(known);
+    }
+    let priced = Priced::new(alloc, index)?;
+    Ok(Some(priced))
+}
+
+/// V14: tells the first offender, by what blocks cost where that is known.
+fn judge_budgets<'a>(
+    alloc: Global,
+    index: &Index<'a>,
+    known: &Option<Priced<'a>>,
+) -> Result<(), Broken>
+    requires indexed { IsIndex index.now }
+    requires same { IfSome known.now (λ p. priced_design p ≡ design_of index.now.design.now) }
+    ensures { Tells result (head_of (bad_budgets (design_of index.entry.now.design.now))) }
+{
+    match known {
+        Some(priced) => first_bad_budget(alloc, index, priced),
+        None => {
+            let priced = Priced::new(alloc, index)?;
+            first_bad_budget(alloc, index, &priced)
+        }
+    }
+}
+
+/// V15: tells the first offender, by what blocks cost where that is known.
+fn judge_sizes<'a>(
+    alloc: Global,
+    index: &Index<'a>,
+    known: &Option<Priced<'a>>,
+) -> Result<(), Broken>
     requires indexed { IsIndex index.now }
     requires few { length (objects (design_of index.now.design.now)) < 4294967296 }
+    requires same { IfSome known.now (λ p. priced_design p ≡ design_of index.now.design.now) }
+    ensures { Tells result (head_of (bad_sizes (design_of index.entry.now.design.now))) }
+{
+    match known {
+        Some(priced) => first_bad_size(alloc, index, priced),
+        None => {
+            let priced = Priced::new(alloc, index)?;
+            first_bad_size(alloc, index, &priced)
+        }
+    }
+}
+
+/// Tells the first offender against a rule, where no lower one is broken, by what blocks cost where that is known.
+#[tactic(auto, using(crate::proofs::Shared::VerdictLaws::judged_list))]
+fn judge<'a>(
+    alloc: Global,
+    index: &Index<'a>,
+    known: &Option<Priced<'a>>,
+    rule: Rule,
+) -> Result<(), Broken>
+    requires indexed { IsIndex index.now }
+    requires few { length (objects (design_of index.now.design.now)) < 4294967296 }
+    requires same { IfSome known.now (λ p. priced_design p ≡ design_of index.now.design.now) }
     requires before { PassesBefore (design_of index.now.design.now) (rule_of rule) }
     ensures { Judges (Offends (design_of index.entry.now.design.now) (design_of index.entry.now.design.now) (rule_of rule)) result }
 {
@@ -93,23 +164,25 @@ fn judge(alloc: Global, index: &Index<'_>, rule: Rule) -> Result<(), Broken>
         Rule::Number => first_bad_number(alloc, index),
         Rule::IdleActive => first_idle_active(alloc, index),
         Rule::BodyFault => first_bad_body(alloc, index),
-        Rule::Budget => first_bad_budget(alloc, index),
-        Rule::Size => first_bad_size(alloc, index),
+        Rule::Budget => judge_budgets(alloc, index, known),
+        Rule::Size => judge_sizes(alloc, index, known),
         Rule::Spacing => first_bad_spacing(alloc, index),
     }
 }
 
-/// Tells the first offender against the first rule that is broken, rule by rule.
+/// Tells the first offender against the first rule that is broken, rule by rule. What blocks cost is worked out once.
 #[tactic(auto, using(crate::proofs::Shared::VerdictLaws::order_laws))]
-fn judge_all(alloc: Global, index: &Index<'_>) -> Result<(), Broken>
+fn judge_all<'a>(alloc: Global, index: &Index<'a>) -> Result<(), Broken>
     requires indexed { IsIndex index.now }
     requires few { length (objects (design_of index.now.design.now)) < 4294967296 }
     requires version { Passes (design_of index.now.design.now) Version }
     ensures { Verdict (design_of index.entry.now.design.now) result }
 {
     let mut rule = Some(Rule::Clash);
+    let mut known = None;
     'rules: while let Some(now) = rule {
-        judge(alloc, index, now)?;
+        known = priced_for(alloc, index, now, known)?;
+        judge(alloc, index, &known, now)?;
         rule = next(now);
     }
     Ok(())

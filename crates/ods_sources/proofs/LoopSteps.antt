@@ -16,6 +16,13 @@ passed_step f g xs i x all inside at none was =
     ap (λ o. head_of (cons_option o (filter_map f (map g (drop (i + 1) xs))))) (sym none)
     ∙ ap (λ ys. head_of (filter_map f (map g ys))) (sym (drop_step xs i x inside at)) ∙ was
 
+-- nothing is told of an item, so that all is told of those behind it
+pub quiet_step : {A O : Type 0} (f : O → Option Broken) (g : A → O) (xs : List A) (i : ℕ) (x : A) (all : List Broken) → i < length xs
+    → x ≡ get_or xs i x → f (g x) ≡ None → filter_map f (map g (drop i xs)) ≡ all → filter_map f (map g (drop (i + 1) xs)) ≡ all
+quiet_step f g xs i x all inside at none was =
+    ap (λ o. cons_option o (filter_map f (map g (drop (i + 1) xs)))) (sym none)
+    ∙ ap (λ ys. filter_map f (map g ys)) (sym (drop_step xs i x inside at)) ∙ was
+
 told_of_none : (memory : Bool) (told wanted : Option Broken) → IsTold memory told None → IsTold memory told wanted
 told_of_none true told wanted h = h
 told_of_none false None wanted h = h

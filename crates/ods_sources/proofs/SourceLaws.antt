@@ -1,8 +1,8 @@
 -- Threads that request an object: how many reach it, and that one that doesn't reach it never requests it.
 use Rattle.std.proofs.Common.{◌≡◌, ◌≤◌, ◌<◌, ◌+◌, ℕ, zero, suc, Bool, true, false, cond, not, ◌&&◌, ◌||◌, List, [], ◌∷◌, ◌++◌, Option, Some, None}
 use Rattle.std.proofs.Common.{map, filter, flat_map, fold, length, arith, refl, ap, sym, ◌∙◌}
-use Rattle.std.specs.Prelude.{max, min, nat_le, ◌==◌, option_to_list, if◌then◌else◌}
-use Rattle.std.specs.List.{list_any}
+use Rattle.std.specs.Prelude.{filter_map, max, min, nat_le, ◌==◌, option_to_list, if◌then◌else◌}
+use Rattle.std.specs.List.{cons_option, list_any}
 use Rattle.std.proofs.lemmas.List.Folds.{list_any-append}
 use Rattle.std.proofs.lemmas.Bool.{or_parts}
 use Rattle.seq_tree.specs.Calls.{block_calls}
@@ -241,7 +241,8 @@ pub fault-none : (x : Design) (o : Object) (sources : ℕ) → sources ≡ sourc
     → fold max 0 (map (requests_by x o.name) (thread_objects x)) ≤ 1 → source_fault x o ≡ None
 fault-none x o sources s one few =
     let counted : (source_count x o == 1) ≡ true = ap (λ n. n == 1) (sym s) ∙ one in
-    let started : nat_le (start_count x o) 1 ≡ true = least-one (start_count x o) (fold max 0 (map (requests_by x o.name) (thread_objects x))) refl few in
+    let started : nat_le (start_count x o) 1 ≡ true = least-one (start_count x o) (fold max 0 (map (requests_by x o.name) (thread_objects x)))
+    refl few in
     ap (λ b. only_if (is_sporadic o.kind && (not b || not (nat_le (start_count x o) 1))) (V10 o.name (source_count x o) (start_count x o))) counted
     ∙ ap (λ b. only_if (is_sporadic o.kind && (false || not b)) (V10 o.name (source_count x o) (start_count x o))) started
     ∙ by (is_sporadic o.kind)
@@ -263,3 +264,12 @@ fine-fault x o out is one few = by (is_sporadic o.kind) refl
         ∙ ap (λ n. length (filter (λ f. reaches x f o.name) (thread_objects x)) + n) (sym is) ∙ one in
         fault-none x o 1 (sym counted) refl few
     by false e = ap (λ b. only_if (b && breaks_sources x o) (V10 o.name (source_count x o) (start_count x o))) e
+
+-- nothing is told where no thread is sporadic
+pub none-sporadic : (x : Design) (os : List Object) → list_any (λ o. is_sporadic o.kind) os ≡ false → filter_map (source_fault x) os ≡ []
+none-sporadic x [] h = refl
+none-sporadic x (o ∷ os) h =
+    let parts = or_parts (is_sporadic o.kind) (list_any (λ f. is_sporadic f.kind) os) h in
+    ap (λ b. cons_option (only_if (b && breaks_sources x o) (V10 o.name (source_count x o) (start_count x o))) (filter_map (source_fault x) os))
+    parts.0
+    ∙ none-sporadic x os parts.1

@@ -16,7 +16,7 @@ ghost use Rattle.design_rules.specs.Sources.{bad_sources, requests_by, source_co
 ghost use Rattle.ods_index.specs.Indexing.{IsIndex};
 ghost use Rattle.ods_index.specs.Judging.{Tells, head_of};
 ghost use Rattle.ods_index.specs.Linked.{op_of};
-ghost use Rattle.ods_sources.specs.Reaching.{AreRight, reacher_of, thread_of};
+ghost use Rattle.ods_sources.specs.Reaching.{AreRight, AreShown, reacher_of, thread_of};
 ghost use Rattle.ods_sources.specs.Requested.{Knows, block_count, source_fault};
 ghost use Rattle.ods_sources.specs.Singles.{is_once};
 ghost use Rattle.ods_sources.specs.Sourced.{any_leads, leads_at, reaches_by};
@@ -29,7 +29,7 @@ use crate::once::Once;
 use crate::reacher::Reacher;
 use crate::requests::{block_requests, counts_within};
 use name_sets::{OpTable, Ops, Places};
-use ods_bodies::bodies_of;
+use ods_bodies::{ProtectedBody, any_sporadic, bodies_of};
 use ods_index::{Broken, Index, Links, OpView, attribute, is_sporadic};
 use ods_starts::{Starts, thread_starts, threads_of};
 use ods_tree::{AttrKey, Node};
@@ -195,39 +195,107 @@ fn counts_fit(alloc: Global, node: &Node, sources: u32, starts: u32) -> Result<(
     })
 }
 
-/// What requests are counted by.
+/// What shows at once of who requests what, with what else it takes to count requests.
 #[derive(Drop)]
-struct Requests<'a> {
+struct Shown<'a> {
     starts: Starts<'a>,
-    bodies: Bodies<'a>,
-    callers: Callers<'a>,
+    listed: Vec<ProtectedBody<'a>>,
     threads: Vec<&'a Node>,
     reached: Places<'a>,
     once: Once<'a>,
 }
 
-impl<'a> Requests<'a> {
-    /// Works out what requests are counted by.
-    fn new(alloc: Global, index: &Index<'a>) -> Result<Requests<'a>, NoMemory>
+impl<'a> Shown<'a> {
+    /// Works out what shows at once, of these threads of a design.
+    fn new(alloc: Global, index: &Index<'a>, threads: Vec<&'a Node>) -> Result<Shown<'a>, NoMemory>
         requires indexed { IsIndex index.now }
+        requires threads { map thread_of threads.items ≡ thread_objects (design_of index.now.design.now) }
         requires few { length (objects (design_of index.now.design.now)) < 4294967296 }
-        ensures same { IfOk result (λ r. r.starts.links.design.now ≡ index.now.design.now) }
-        ensures right { IfOk result AreRight }
+        ensures same { IfOk result (λ s. s.starts.links.design.now ≡ index.now.design.now) }
+        ensures right { IfOk result AreShown }
     {
         let starts = Starts::new(alloc, index)?;
         let listed = bodies_of(alloc, index.objects.as_slice())?;
-        let bodies = table_of(alloc, listed.as_slice())?;
-        let callers = Callers::of_bodies(alloc, &starts.links, listed.as_slice())?;
-        let threads = threads_of(alloc, index.objects.as_slice())?;
         let reached = starts.reached_by_any(alloc, threads.as_slice())?;
         let once = Once::new(alloc, &starts.links, listed.as_slice(), threads.as_slice())?;
-        Ok(Requests {
+        Ok(Shown {
             starts,
-            bodies,
-            callers,
+            listed,
             threads,
             reached,
             once,
+        })
+    }
+
+    /// Whether an object isn't requested from outside, and shows at once that one thread alone reaches it, which requests it once at most.
+    #[tactic(auto, using(ods_index::proofs::Shared::WalkSteps::node_steps))]
+    fn is_alone(&self, node: &Node, outside: usize) -> bool
+        ensures { result ≡ (outside == 0 && is_once self.now.once (object_of node.now).name) }
+    {
+        outside == 0 && self.once.has(&node.name)
+    }
+
+    /// Whether an object shows at once that it has one source, and that no path requests it twice.
+    #[tactic(auto, using(ods_index::proofs::Shared::WalkSteps::node_steps))]
+    fn is_fine(&self, node: &Node) -> bool
+        requires { AreShown self.now }
+        ensures { result ≡ true → source_fault (design_of self.now.starts.links.design.now) (object_of node.now) ≡ None }
+    {
+        let outside = outside_count(node);
+        match self.reached.get(&node.name) {
+            None => outside == 1,
+            Some(_) => self.is_alone(node, outside),
+        }
+    }
+
+    /// Whether that is so of a thread, or it isn't sporadic.
+    #[tactic(auto, using(ods_index::proofs::Shared::WalkSteps::node_steps))]
+    fn is_right(&self, node: &Node) -> bool
+        requires { AreShown self.now }
+        ensures { result ≡ true → source_fault (design_of self.now.starts.links.design.now) (object_of node.now) ≡ None }
+    {
+        if !is_sporadic(node.kind) {
+            return true;
+        }
+        self.is_fine(node)
+    }
+
+    /// Whether that is so of all threads.
+    fn all_right(&self) -> bool
+        requires { AreShown self.now }
+        ensures { result ≡ true
+            → filter_map (source_fault (design_of self.now.starts.links.design.now)) (map thread_of self.now.threads.items) ≡ [] }
+    {
+        'threads: for thread in &self.threads {
+            if !self.is_right(thread) {
+                return false;
+            }
+        }
+        true
+    }
+}
+
+/// What requests are counted by.
+#[derive(Drop)]
+struct Requests<'a> {
+    shown: Shown<'a>,
+    bodies: Bodies<'a>,
+    callers: Callers<'a>,
+}
+
+impl<'a> Requests<'a> {
+    /// Works out what requests are counted by, from what shows at once.
+    fn new(alloc: Global, shown: Shown<'a>) -> Result<Requests<'a>, NoMemory>
+        requires { AreShown shown }
+        ensures same { IfOk result (λ r. r.shown.starts.links.design.now ≡ shown.entry.starts.links.design.now) }
+        ensures right { IfOk result AreRight }
+    {
+        let bodies = table_of(alloc, shown.listed.as_slice())?;
+        let callers = Callers::of_bodies(alloc, &shown.starts.links, shown.listed.as_slice())?;
+        Ok(Requests {
+            shown,
+            bodies,
+            callers,
         })
     }
 
@@ -235,16 +303,16 @@ impl<'a> Requests<'a> {
     fn reachers_of(&self, alloc: Global, name: &Name) -> Result<Vec<Reacher<'a>>, NoMemory>
         requires { AreRight self.now }
         ensures { IfOk result (λ v. map reacher_of v.items
-            ≡ filter (λ o. reaches (design_of self.now.starts.links.design.now) o name.now)
-            (thread_objects (design_of self.now.starts.links.design.now))) }
+            ≡ filter (λ o. reaches (design_of self.now.shown.starts.links.design.now) o name.now)
+            (thread_objects (design_of self.now.shown.starts.links.design.now))) }
     {
-        let leading = leading_to(alloc, &self.callers, self.starts.depth, name)?;
+        let leading = leading_to(alloc, &self.callers, self.shown.starts.depth, name)?;
         reachers_by(
             alloc,
-            &self.starts.links,
+            &self.shown.starts.links,
             name,
             &leading,
-            self.threads.as_slice(),
+            self.shown.threads.as_slice(),
         )
     }
 
@@ -254,9 +322,9 @@ impl<'a> Requests<'a> {
         requires right { AreRight self.now }
         requires sporadic { is_sporadic (object_of node.now).kind ≡ true }
         requires all { map reacher_of reachers.now
-            ≡ filter (λ o. reaches (design_of self.now.starts.links.design.now) o (object_of node.now).name)
-            (thread_objects (design_of self.now.starts.links.design.now)) }
-        ensures { result ≡ source_count (design_of self.now.starts.links.design.now) (object_of node.now) }
+            ≡ filter (λ o. reaches (design_of self.now.shown.starts.links.design.now) o (object_of node.now).name)
+            (thread_objects (design_of self.now.shown.starts.links.design.now)) }
+        ensures { result ≡ source_count (design_of self.now.shown.starts.links.design.now) (object_of node.now) }
     {
         let inside = reachers.len();
         let outside = outside_count(node);
@@ -272,39 +340,19 @@ impl<'a> Requests<'a> {
     ) -> Result<u32, NoMemory>
         requires { AreRight self.now }
         ensures { IfOk result (λ n. n
-            ≡ min 2 (fold max 0 (map (requests_by (design_of self.now.starts.links.design.now) name.now) (map reacher_of reachers.entry.now)))) }
+            ≡ min 2 (fold max 0 (map (requests_by (design_of self.now.shown.starts.links.design.now) name.now)
+            (map reacher_of reachers.entry.now)))) }
     {
-        let links = &self.starts.links;
+        let links = &self.shown.starts.links;
         let known = counts_within(
             alloc,
             links,
             &self.callers,
             &self.bodies,
-            self.starts.depth,
+            self.shown.starts.depth,
             name,
         )?;
         most_requests(alloc, links, name, &known, reachers)
-    }
-
-    /// Whether an object isn't requested from outside, and shows at once that one thread alone reaches it, which requests it once at most.
-    #[tactic(auto, using(ods_index::proofs::Shared::WalkSteps::node_steps))]
-    fn is_alone(&self, node: &Node, outside: usize) -> bool
-        ensures { result ≡ (outside == 0 && is_once self.now.once (object_of node.now).name) }
-    {
-        outside == 0 && self.once.has(&node.name)
-    }
-
-    /// Whether an object shows at once that it has one source, and that no path requests it twice.
-    #[tactic(auto, using(ods_index::proofs::Shared::WalkSteps::node_steps))]
-    fn is_fine(&self, node: &Node) -> bool
-        requires { AreRight self.now }
-        ensures { result ≡ true → source_fault (design_of self.now.starts.links.design.now) (object_of node.now) ≡ None }
-    {
-        let outside = outside_count(node);
-        match self.reached.get(&node.name) {
-            None => outside == 1,
-            Some(_) => self.is_alone(node, outside),
-        }
     }
 
     /// Tells an object that is sporadic and whose sources are wrong, by counting them.
@@ -312,7 +360,7 @@ impl<'a> Requests<'a> {
     fn counted_fits(&self, alloc: Global, node: &Node) -> Result<(), Broken>
         requires right { AreRight self.now }
         requires sporadic { is_sporadic (object_of node.now).kind ≡ true }
-        ensures { Tells result (source_fault (design_of self.now.starts.links.design.now) (object_of node.now)) }
+        ensures { Tells result (source_fault (design_of self.now.shown.starts.links.design.now) (object_of node.now)) }
     {
         let reachers = self.reachers_of(alloc, &node.name)?;
         let sources = self.source_count(node, reachers.as_slice());
@@ -324,12 +372,12 @@ impl<'a> Requests<'a> {
     #[tactic(auto, using(ods_index::proofs::Shared::WalkSteps::node_steps))]
     fn target_fits(&self, alloc: Global, node: &Node) -> Result<(), Broken>
         requires { AreRight self.now }
-        ensures { Tells result (source_fault (design_of self.now.starts.links.design.now) (object_of node.now)) }
+        ensures { Tells result (source_fault (design_of self.now.shown.starts.links.design.now) (object_of node.now)) }
     {
         if !is_sporadic(node.kind) {
             return Ok(());
         }
-        if self.is_fine(node) {
+        if self.shown.is_fine(node) {
             return Ok(());
         }
         self.counted_fits(alloc, node)
@@ -339,7 +387,7 @@ impl<'a> Requests<'a> {
     #[tactic(auto, using(ods_index::proofs::Shared::TellSteps::tell_steps))]
     fn targets_fit(&self, alloc: Global, threads: &[&'a Node]) -> Result<(), Broken>
         requires { AreRight self.now }
-        ensures { Tells result (head_of (filter_map (source_fault (design_of self.now.starts.links.design.now)) (map thread_of threads.now))) }
+        ensures { Tells result (head_of (filter_map (source_fault (design_of self.now.shown.starts.links.design.now)) (map thread_of threads.now))) }
     {
         'threads: for thread in threads {
             self.target_fits(alloc, thread)?;
@@ -354,6 +402,14 @@ pub fn first_bad_source(alloc: Global, index: &Index<'_>) -> Result<(), Broken>
     requires few { length (objects (design_of index.now.design.now)) < 4294967296 }
     ensures { Tells result (head_of (bad_sources (design_of index.entry.now.design.now))) }
 {
-    let requests = Requests::new(alloc, index)?;
-    requests.targets_fit(alloc, requests.threads.as_slice())
+    let threads = threads_of(alloc, index.objects.as_slice())?;
+    if !any_sporadic(threads.as_slice()) {
+        return Ok(());
+    }
+    let shown = Shown::new(alloc, index, threads)?;
+    if shown.all_right() {
+        return Ok(());
+    }
+    let requests = Requests::new(alloc, shown)?;
+    requests.targets_fit(alloc, requests.shown.threads.as_slice())
 }

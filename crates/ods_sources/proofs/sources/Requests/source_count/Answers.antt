@@ -11,17 +11,17 @@ use Rattle.ods_sources.proofs.sources.Requests.source_count.Goals as goal
 
 pub sum_of-requires : goal.sum_of-requires
 sum_of-requires c =
-    let x = design_of c.args.self.now.starts.links.design.now in
+    let x = design_of c.args.self.now.shown.starts.links.design.now in
     let o = object_of c.args.node.now in
     let all : length c.args.reachers.now ≡ length (filter (λ f. reaches x f o.name) (thread_objects x)) =
     sym (length-map c.args.reachers.now reacher_of) ∙ ap (λ (os : List Object). length os) c.requires.all in
     let few : length (filter (λ f. reaches x f o.name) (thread_objects x)) ≤ length (thread_objects x) =
     filter-shorter (λ f. reaches x f o.name) (thread_objects x) in
-    omega (arith, c.outside_count-outside.ensures.one, all, few, c.requires.right.few)
+    omega (arith, c.outside_count-outside.ensures.one, all, few, c.requires.right.shown.few)
 
 pub returns : goal.returns
 returns c =
-    let x = design_of c.args.self.now.starts.links.design.now in
+    let x = design_of c.args.self.now.shown.starts.links.design.now in
     let o = object_of c.args.node.now in
     let all : length c.args.reachers.now ≡ length (filter (λ f. can_start x f o) (thread_objects x)) =
     sym (length-map c.args.reachers.now reacher_of) ∙ ap (λ (os : List Object). length os) c.requires.all

@@ -10,7 +10,7 @@ use Rattle.ods_sources.specs.Singles.{is_once}
 use Rattle.ods_starts.specs.Spreading.{reaches}
 use Rattle.ods_index.specs.Walking.{object_of}
 use Rattle.ods_sources.proofs.SourceLaws.{fine-fault, none-reached, own-name, some-reached}
-use Rattle.ods_sources.proofs.sources.Requests.is_fine.Goals as goal
+use Rattle.ods_sources.proofs.sources.Shown.is_fine.Goals as goal
 
 pub returns-in-None : goal.returns-in-None
 returns-in-None c shown =

@@ -10,7 +10,7 @@ use Rattle.ods_index.specs.Judging.{head_of}
 use Rattle.ods_index.specs.Walking.{standing_of}
 use Rattle.ods_index.specs.declared.walk.Standing.{Standing}
 use Rattle.ods_costs.proofs.SizeSteps.{sizes-told}
-use Rattle.ods_costs.proofs.sizes.sizes_fit.Goals as goal
+use Rattle.ods_costs.proofs.sizes.first_bad_size.Goals as goal
 
 pub returns : goal.returns
 returns c =

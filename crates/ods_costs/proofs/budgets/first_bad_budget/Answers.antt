@@ -10,7 +10,7 @@ use Rattle.ods_index.specs.Walking.{standing_of}
 use Rattle.ods_index.specs.declared.walk.Standing.{Standing}
 use Rattle.ods_costs.proofs.BudgetSteps.{budgets-split}
 use Rattle.ods_index.proofs.Shared.TellSteps.{tells_front}
-use Rattle.ods_costs.proofs.budgets.budgets_fit.Goals as goal
+use Rattle.ods_costs.proofs.budgets.first_bad_budget.Goals as goal
 
 pub returns-in_err-object_fits : goal.returns-in_err-object_fits
 returns-in_err-object_fits c =
@@ -18,8 +18,8 @@ returns-in_err-object_fits c =
     let y = design_of c.args.index.now.design.now in
     let items = c.deref-standing-items.result.now in
     let all : head_of (bad_budgets y) ≡ head_of (flat_map (over_budgets x) (map standing_of c.args.index.now.objects.items)) =
-    ap head_of (budgets-split y (objects y)) ∙ ap (λ ss. head_of (flat_map (over_budgets y) ss)) (sym c.requires.0.walked)
-    ∙ ap (λ z. head_of (flat_map (over_budgets z) (map standing_of c.args.index.now.objects.items))) (sym c.requires.1) in
+    ap head_of (budgets-split y (objects y)) ∙ ap (λ ss. head_of (flat_map (over_budgets y) ss)) (sym c.requires.indexed.walked)
+    ∙ ap (λ z. head_of (flat_map (over_budgets z) (map standing_of c.args.index.now.objects.items))) (sym c.requires.same) in
     let e = c.in_err-object_fits.field-0.0 in
     let is : c.from_residual.result ≡ Err e = search rules in
     let later = flat_map (over_budgets x) (map standing_of (drop (c.objects.standing-index + 1) items)) in
@@ -38,7 +38,7 @@ returns c =
     let y = design_of c.args.index.now.design.now in
     let items = c.deref-standing-items.result.now in
     let all : head_of (bad_budgets y) ≡ head_of (flat_map (over_budgets x) (map standing_of c.args.index.now.objects.items)) =
-    ap head_of (budgets-split y (objects y)) ∙ ap (λ ss. head_of (flat_map (over_budgets y) ss)) (sym c.requires.0.walked)
-    ∙ ap (λ z. head_of (flat_map (over_budgets z) (map standing_of c.args.index.now.objects.items))) (sym c.requires.1) in
+    ap head_of (budgets-split y (objects y)) ∙ ap (λ ss. head_of (flat_map (over_budgets y) ss)) (sym c.requires.indexed.walked)
+    ∙ ap (λ z. head_of (flat_map (over_budgets z) (map standing_of c.args.index.now.objects.items))) (sym c.requires.same) in
     let left : drop c.objects.standing-index items ≡ [] = drop_all c.objects.standing-index items c.objects-test.false in
     all ∙ sym c.objects.invariant ∙ ap (λ (ss : List Standing). head_of (flat_map (over_budgets x) (map standing_of ss))) left

@@ -3,7 +3,7 @@ use Rattle.ods_tree.specs.Trees.{design_of}
 use Rattle.ods_costs.specs.Costed.{over_budgets}
 use Rattle.ods_index.specs.Judging.{head_of}
 use Rattle.ods_index.specs.Walking.{standing_of}
-use Rattle.ods_costs.proofs.budgets.budgets_fit.Given as goal
+use Rattle.ods_costs.proofs.budgets.first_bad_budget.Given as goal
 
 -- it is up to the objects that are left
 abbrev pub invariant-objects : goal.invariant-objects

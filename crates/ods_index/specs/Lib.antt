@@ -7,3 +7,4 @@ pub mod Scoped
 pub mod Told
 pub mod Judging
 pub mod OwnOps
+pub mod Calling

@@ -9,6 +9,8 @@ ghost use Rattle.name_sets.specs.FirstPlaces.{place_from};
 ghost use Rattle.ods_index.specs.Tables.{object_name};
 ghost use Rattle.ods_index.specs.Walking.{standing_of};
 
+use crate::calls::{OpCalls, op_calls};
+use crate::links::Links;
 use crate::tables::ProvidedOps;
 use crate::walk::{Standing, objects_of};
 use name_sets::Places;
@@ -16,14 +18,16 @@ use ods_tree::{Design, Provided};
 use seq_tree::{Name, NoMemory, OpName};
 use std::alloc::Global;
 
-/// The objects of a design in flattened order, with tables of their names and of the operations that they provide. Each call
-/// that reads it requires `IsIndex`, which `new` ensures.
+/// The objects of a design in flattened order, with tables of their names and of the operations that they provide, with what calls mean by
+/// links, and with the graph of calls: what the bodies of operations call. Each call that reads it requires `IsIndex`, which `new` ensures.
 #[derive(Drop)]
 pub struct Index<'a> {
     pub design: &'a Design,
     pub objects: Vec<Standing<'a>>,
     places: Places<'a>,
     ops: Vec<ProvidedOps<'a>>,
+    pub links: Links<'a>,
+    pub calls: Vec<OpCalls<'a>>,
 }
 
 /// A table of the names of objects. From the last to the first, so that of two with one name the first stays.
@@ -53,7 +57,7 @@ fn ops_of<'a>(alloc: Global, objects: &[Standing<'a>]) -> Result<Vec<ProvidedOps
 }
 
 impl<'a> Index<'a> {
-    /// The objects of a design with their tables.
+    /// The objects of a design with their tables and calls. The time grows as the design does.
     pub fn new(alloc: Global, design: &'a Design) -> Result<Index<'a>, NoMemory>
         ensures indexed { IfOk result IsIndex }
         ensures same { IfOk result (λ i. design_of i.design.now ≡ design_of design.entry.now) }
@@ -61,11 +65,15 @@ impl<'a> Index<'a> {
         let objects = objects_of(alloc, design)?;
         let places = places_of(alloc, objects.as_slice())?;
         let ops = ops_of(alloc, objects.as_slice())?;
+        let links = Links::new(alloc, design)?;
+        let calls = op_calls(alloc, &links, objects.as_slice())?;
         Ok(Index {
             design,
             objects,
             places,
             ops,
+            links,
+            calls,
         })
     }
 

@@ -1,4 +1,5 @@
-//! A design as its rules read it: its objects in flattened order, tables of their names and operations, and what calls mean by links.
+//! A design as its rules read it: its objects in flattened order, tables of their names and operations, what calls mean by links, and
+//! the graph of calls of its bodies.
 //!
 //! It stands on the designs of `ods_tree`, the rules of `design_rules`, the faults of bodies of `seq_check` and the calls of
 //! `seq_cost`. `Broken` is what is told of a rule that a design breaks; the crates above find it.
@@ -15,6 +16,7 @@
 
 mod attributes;
 mod broken;
+mod calls;
 mod index;
 mod kinds;
 mod links;
@@ -26,6 +28,7 @@ mod walk;
 
 pub use attributes::{attribute, attribute_count, attribute_or_0};
 pub use broken::Broken;
+pub use calls::{OpCalls, meant_calls};
 pub use index::Index;
 pub use kinds::{
     has_thread, is_empty, is_idle_active, is_passive, is_protected, is_sporadic, is_terminal,

@@ -1,3 +1,4 @@
+mod CallingExamples
 mod Examples
 pub mod LinkLaws
 pub mod RequiredSteps

@@ -6,7 +6,8 @@ use Rattle.seq_tree.specs.declared.tree.OpName.{OpName}
 use Rattle.ods_tree.specs.Designs.{Design, Empty, Node, Object}
 use Rattle.ods_tree.specs.declared.design.AttrKey.TheVariants.{ArrivalJitter}
 use Rattle.ods_tree.specs.declared.design.Kind.TheVariants.{Protected, Sporadic, Cyclic}
-use Rattle.ods_bodies.specs.Held.{HeldBody, held_bodies, held_calls}
+use Rattle.ods_bodies.specs.Held.{held_bodies, is_held}
+use Rattle.ods_index.specs.Calling.{Calls}
 use Rattle.ods_tree.specs.declared.design.Kind.{Kind}
 use Rattle.ods_bodies.specs.Keys.{has_target, is_target}
 
@@ -53,20 +54,21 @@ outer = record {
 abbrev small : Object → Design
 small o = record { name = codes "d"; version = None; costs = free; root = Node o Empty }
 
-abbrev body_with : List OpName → HeldBody
-body_with needs = record { name = put; needs = needs; block = calls_set }
+-- the body of its operation in an object of this kind
+abbrev body_in : Kind → Calls
+body_in kind = record { kind = kind; name = put; needs = set ∷ []; block = calls_set; meant = set ∷ [] }
 
-held_there : held_bodies (small (keeper (set ∷ []))) ≡ body_with (set ∷ []) ∷ []
+held : is_held (body_in Protected) ≡ true
+held = refl
+
+not_held : is_held (body_in Sporadic) ≡ false
+not_held = refl
+
+held_there : held_bodies (small (keeper (set ∷ []))) ≡ body_in Protected ∷ []
 held_there = refl
 
-not_protected : held_bodies (small outer) ≡ []
+not_protected : held_bodies (small (record (keeper (set ∷ [])) { kind = Sporadic })) ≡ []
 not_protected = refl
-
-required_call : held_calls (small outer) (body_with (set ∷ [])) ≡ set ∷ []
-required_call = refl
-
-call_not_required : held_calls (small outer) (body_with []) ≡ []
-call_not_required = refl
 
 -- a thread of this kind
 abbrev thread : Kind → Object

@@ -1,5 +1,4 @@
 mod BodyExamples
-pub mod FilterSteps
 pub mod KeySteps
 pub mod Shared
 pub mod TargetSteps

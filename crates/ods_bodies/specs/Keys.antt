@@ -12,7 +12,7 @@ use Rattle.call_graph.specs.Listed.{block_listed}
 use Rattle.call_graph.specs.Once.{CallerTree}
 use Rattle.ods_tree.specs.Designs.{Design, Object}
 use Rattle.ods_tree.specs.Links.{resolve}
-use Rattle.ods_bodies.specs.Held.{HeldBody}
+use Rattle.ods_index.specs.Calling.{Calls}
 use Rattle.design_rules.specs.Lookups.{is_sporadic}
 
 -- whether an object of a name is sporadic, and whether one of these is
@@ -39,5 +39,5 @@ abbrev pub thread_keys : Places → Design → Object → List OpName
 thread_keys t x o = flat_map (keys_in t x o.needs) (option_to_list o.thread)
 
 -- a body of a protected operation
-abbrev pub held_caller : Places → Design → HeldBody → CallerTree
+abbrev pub held_caller : Places → Design → Calls → CallerTree
 held_caller t x h = record { from = Some (key t h.name); calls = keys_in t x h.needs h.block }

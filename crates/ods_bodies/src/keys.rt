@@ -9,16 +9,16 @@ ghost use Rattle.call_graph.specs.Once.{caller_of};
 ghost use Rattle.ods_tree.specs.Links.{resolve};
 ghost use Rattle.ods_tree.specs.Trees.{design_of};
 ghost use Rattle.design_rules.specs.Lookups.{is_sporadic};
+ghost use Rattle.ods_index.specs.Calling.{calls_of};
 ghost use Rattle.ods_index.specs.Linked.{op_of};
 ghost use Rattle.ods_index.specs.Nodes.{node_object};
 ghost use Rattle.ods_index.specs.Walking.{object_of};
 ghost use Rattle.ods_bodies.specs.Held.{held_of};
 ghost use Rattle.ods_bodies.specs.Keys.{has_target, held_caller, is_target, key, keys_in, thread_keys};
 
-use crate::held::ProtectedBody;
 use call_graph::{Caller, listed_calls};
 use name_sets::Places;
-use ods_index::{Links, OpView, Required, is_sporadic};
+use ods_index::{Links, OpCalls, OpView, Required, is_sporadic};
 use ods_tree::Node;
 use seq_cost::Call;
 use seq_tree::{Block, NoMemory};
@@ -139,11 +139,11 @@ fn add_body<'a>(
     alloc: Global,
     targets: &Places<'a>,
     links: &Links<'a>,
-    body: &ProtectedBody<'a>,
+    body: &OpCalls<'a>,
     into: &mut Vec<Caller<'a>>,
 ) -> Result<(), NoMemory>
     ensures { OnOk result (map caller_of into.new.items ≡ map caller_of into.old.items
-        ++ held_caller targets.now (design_of links.now.design.now) (held_of body.entry.now) ∷ []) }
+        ++ held_caller targets.now (design_of links.now.design.now) (calls_of body.entry.now) ∷ []) }
 {
     let calls = keys_of(alloc, targets, links, &body.needs, body.block)?;
     let from = key_of(
@@ -165,7 +165,7 @@ pub fn add_callers<'a>(
     alloc: Global,
     targets: &Places<'a>,
     links: &Links<'a>,
-    bodies: &[ProtectedBody<'a>],
+    bodies: &[&OpCalls<'a>],
     into: &mut Vec<Caller<'a>>,
 ) -> Result<(), NoMemory>
     ensures { OnOk result (map caller_of into.new.items ≡ map caller_of into.old.items

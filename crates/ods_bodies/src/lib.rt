@@ -12,5 +12,5 @@
 mod held;
 mod keys;
 
-pub use held::{ProtectedBody, bodies_of};
+pub use held::bodies_of;
 pub use keys::{add_callers, any_sporadic, targets_of, thread_keys};

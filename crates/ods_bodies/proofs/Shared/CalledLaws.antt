@@ -1,9 +1,10 @@
 -- Which bodies make the calls of protected operations, and that a body lists all calls that it makes.
 -- What a body calls it lists also by the name that its way and its rank have.
-use Rattle.std.proofs.Common.{◌≡◌, inl, inr, ◌⊎◌, Bool, true, false, not, ◌&&◌, ◌||◌, List, [], ◌∷◌, ◌++◌, map, filter, refl, sym, subst, ◌∙◌}
+use Rattle.std.proofs.Common.{◌≡◌, inl, inr, ◌⊎◌, Bool, true, false, not, ◌&&◌, ◌||◌, List, [], ◌∷◌, ◌++◌, map, filter, flat_map, refl, ap, sym, subst, ◌∙◌}
 use Rattle.std.specs.Prelude.{if◌then◌else◌}
 use Rattle.std.specs.List.{list_any}
 use Rattle.std.proofs.lemmas.Bool.{and_parts, and_from}
+use Rattle.std.proofs.lemmas.List.Elements.{filter-append}
 use Rattle.seq_tree.proofs.Shared.SameNames.{same-self}
 use Rattle.seq_tree.specs.Calls.{block_calls, branch_calls, same_op, statement_calls}
 use Rattle.seq_tree.specs.Names.{same_name}
@@ -18,7 +19,8 @@ use Rattle.ods_tree.specs.Flattening.{is_protected}
 use Rattle.ods_tree.specs.Links.{resolve}
 use Rattle.ods_tree.specs.Walk.{Standing, terminals}
 use Rattle.design_rules.specs.Rings.{inner_calls, meant_calls, operation_calls, protected_objects}
-use Rattle.ods_bodies.specs.Held.{HeldBody, held, held_bodies, held_calls, held_in}
+use Rattle.ods_bodies.specs.Held.{held_bodies, is_held}
+use Rattle.ods_index.specs.Calling.{Calls, body_calls, object_calls, required_calls}
 use Rattle.ods_bodies.specs.Keys.{key, keys_in}
 use Rattle.ods_bodies.proofs.Shared.Items.{In, any-in, from-filter, from-flat, from-map, in-filter, in-flat, in-left, in-map, in-parts, in-right}
 use Rattle.ods_bodies.proofs.Shared.Items.{some-in}
@@ -31,41 +33,89 @@ none-in p xs h a at = by (p a) refl
     by true e = (let z : true ≡ false = sym (any-in p a xs at e) ∙ h in cc)
     by false e = e
 
+-- the bodies that are held are those of protected objects
+held-of-object : (x : Design) (o : Object) (bs : List Body)
+    → filter is_held (map (body_calls x o.kind o.name o.needs) bs) ≡ (if is_protected o.kind then map (body_calls x o.kind o.name o.needs) bs else [])
+held-of-object x o [] = by (is_protected o.kind)
+  where
+    by : (t : Bool) → filter is_held [] ≡ (if t then map (body_calls x o.kind o.name o.needs) [] else [])
+    by true = refl
+    by false = refl
+held-of-object x o (b ∷ bs) = by (is_protected o.kind) (held-of-object x o bs)
+  where
+    by : (t : Bool) → filter is_held (map (body_calls x o.kind o.name o.needs) bs) ≡ (if t then map (body_calls x o.kind o.name o.needs) bs else [])
+        → (if t then body_calls x o.kind o.name o.needs b ∷ filter is_held (map (body_calls x o.kind o.name o.needs) bs)
+        else filter is_held (map (body_calls x o.kind o.name o.needs) bs))
+        ≡ (if t then map (body_calls x o.kind o.name o.needs) (b ∷ bs) else [])
+    by true e = ap (λ cs. body_calls x o.kind o.name o.needs b ∷ cs) e
+    by false e = e
+
+pub held-of-objects : (x : Design) (ss : List Standing) → filter is_held (flat_map (λ s. object_calls x s.own) ss)
+    ≡ flat_map (λ s. object_calls x s.own) (filter (λ s. is_protected s.own.kind) ss)
+held-of-objects x [] = refl
+held-of-objects x (s ∷ ss) =
+    filter-append is_held (object_calls x s.own) (flat_map (λ s. object_calls x s.own) ss)
+    ∙ ap (λ cs. cs ++ filter is_held (flat_map (λ s. object_calls x s.own) ss)) (held-of-object x s.own s.own.bodies)
+    ∙ by (is_protected s.own.kind) (held-of-objects x ss)
+  where
+    by : (t : Bool) → filter is_held (flat_map (λ s. object_calls x s.own) ss)
+        ≡ flat_map (λ s. object_calls x s.own) (filter (λ s. is_protected s.own.kind) ss)
+        → (if t then object_calls x s.own else []) ++ filter is_held (flat_map (λ s. object_calls x s.own) ss)
+        ≡ flat_map (λ s. object_calls x s.own)
+        (if t then s ∷ filter (λ s. is_protected s.own.kind) ss else filter (λ s. is_protected s.own.kind) ss)
+    by true e = ap (λ cs. object_calls x s.own ++ cs) e
+    by false e = e
+
+-- one that is held is a body of a terminal protected object
+pub held-from : (x : Design) (h : Calls) → In h (held_bodies x) → (s : Standing) × In s (filter (λ (s : Standing). is_protected s.own.kind) (terminals x))
+    × (b : Body) × In b s.own.bodies × (body_calls x s.own.kind s.own.name s.own.needs b ≡ h)
+held-from x h at =
+    let P : List Calls → Type 0 = λ hs. In h hs in
+    let s = from-flat (λ (s : Standing). object_calls x s.own) h (filter (λ (s : Standing). is_protected s.own.kind) (terminals x))
+    (subst P (held-of-objects x (terminals x)) at) in
+    let b = from-map (body_calls x s.0.own.kind s.0.own.name s.0.own.needs) h s.0.own.bodies s.2 in (s.0, s.1, b.0, b.1, b.2)
+
+-- what one that is held means by its calls
+pub held-meant : (x : Design) (h : Calls) → In h (held_bodies x) → h.meant ≡ required_calls x h.needs h.block
+held-meant x h at =
+    let P : Calls → Type 0 = λ g. g.meant ≡ required_calls x g.needs g.block in let r = held-from x h at in subst P r.4 refl
+
 -- a protected operation makes the calls of its bodies
-pub inner-body : (x : Design) (n k : OpName) → In k (inner_calls x n) → (h : HeldBody) × In h (held_bodies x) × (h.name ≡ n) × In k (held_calls x h)
+pub inner-body : (x : Design) (n k : OpName) → In k (inner_calls x n) → (h : Calls) × In h (held_bodies x) × (h.name ≡ n) × In k h.meant
 inner-body x n k at =
     let f = from-flat (λ (o : Object). operation_calls x o n.op) k (filter (λ (o : Object). same_name o.name n.object) (protected_objects x)) at in
     let g = from-filter (λ (o : Object). same_name o.name n.object) f.0 (protected_objects x) f.1 in
     let s = from-map (λ (s : Standing). s.own) f.0 (filter (λ (s : Standing). is_protected s.own.kind) (terminals x)) g.0 in
     let b = from-flat (λ (b : Body). meant_calls x f.0 b.block) k (filter (λ (b : Body). same_name b.name n.op) f.0.bodies) f.2 in
     let c = from-filter (λ (b : Body). same_name b.name n.op) b.0 f.0.bodies b.1 in
-    let h : HeldBody = held f.0.name f.0.needs b.0 in
-    let P : Object → Type 0 = λ o. In h (held_in o) in (
+    let h : Calls = body_calls x f.0.kind f.0.name f.0.needs b.0 in
+    let P : Object → Type 0 = λ o. In h (object_calls x o) in
+    let Q : List Calls → Type 0 = λ hs. In h hs in (
       h,
-      in-flat (λ (s : Standing). held_in s.own) s.0 h (filter (λ (s : Standing). is_protected s.own.kind) (terminals x)) s.1
-          (subst P (sym s.2) (in-map (held f.0.name f.0.needs) b.0 f.0.bodies c.0)),
+      subst Q (sym (held-of-objects x (terminals x)))
+          (in-flat (λ (s : Standing). object_calls x s.own) s.0 h (filter (λ (s : Standing). is_protected s.own.kind) (terminals x)) s.1
+          (subst P (sym s.2) (in-map (body_calls x f.0.kind f.0.name f.0.needs) b.0 f.0.bodies c.0))),
       same_op-eq (record { object = f.0.name; op = b.0.name }) n (and_from (same_name f.0.name n.object) (same_name b.0.name n.op) g.1 c.1),
       b.2,
     )
 
-pub body-inner : (x : Design) (h : HeldBody) (k : OpName) → In h (held_bodies x) → In k (held_calls x h) → In k (inner_calls x h.name)
+pub body-inner : (x : Design) (h : Calls) (k : OpName) → In h (held_bodies x) → In k h.meant → In k (inner_calls x h.name)
 body-inner x h k at calls =
-    let s = from-flat (λ (s : Standing). held_in s.own) h (filter (λ (s : Standing). is_protected s.own.kind) (terminals x)) at in
-    let b = from-map (held s.0.own.name s.0.own.needs) h s.0.own.bodies s.2 in
-    let own = b.0 in
-    let n : OpName = record { object = s.0.own.name; op = own.name } in
-    let P : HeldBody → Type 0 = λ g. In k (held_calls x g) in
-    let Q : HeldBody → Type 0 = λ g. In k (inner_calls x g.name) in
-    let mine : In k (meant_calls x s.0.own own.block) = subst P (sym b.2) calls in
-    let object : In s.0.own (filter (λ (o : Object). same_name o.name s.0.own.name) (protected_objects x)) =
-    in-filter (λ (o : Object). same_name o.name s.0.own.name) s.0.own (protected_objects x)
-    (in-map (λ (s : Standing). s.own) s.0 (filter (λ (s : Standing). is_protected s.own.kind) (terminals x)) s.1) (same-self s.0.own.name) in
-    let body : In own (filter (λ (b : Body). same_name b.name own.name) s.0.own.bodies) =
-    in-filter (λ (b : Body). same_name b.name own.name) own s.0.own.bodies b.1 (same-self own.name) in
-    subst Q b.2
-    (in-flat (λ (o : Object). operation_calls x o own.name) s.0.own k (filter (λ (o : Object). same_name o.name s.0.own.name) (protected_objects x))
+    let r = held-from x h at in
+    let s = r.0 in
+    let own = r.2 in
+    let P : Calls → Type 0 = λ g. In k g.meant in
+    let Q : Calls → Type 0 = λ g. In k (inner_calls x g.name) in
+    let mine : In k (meant_calls x s.own own.block) = subst P (sym r.4) calls in
+    let object : In s.own (filter (λ (o : Object). same_name o.name s.own.name) (protected_objects x)) =
+    in-filter (λ (o : Object). same_name o.name s.own.name) s.own (protected_objects x)
+    (in-map (λ (s : Standing). s.own) s (filter (λ (s : Standing). is_protected s.own.kind) (terminals x)) r.1) (same-self s.own.name) in
+    let body : In own (filter (λ (b : Body). same_name b.name own.name) s.own.bodies) =
+    in-filter (λ (b : Body). same_name b.name own.name) own s.own.bodies r.3 (same-self own.name) in
+    subst Q r.4
+    (in-flat (λ (o : Object). operation_calls x o own.name) s.own k (filter (λ (o : Object). same_name o.name s.own.name) (protected_objects x))
     object
-    (in-flat (λ (b : Body). meant_calls x s.0.own b.block) own k (filter (λ (b : Body). same_name b.name own.name) s.0.own.bodies) body mine))
+    (in-flat (λ (b : Body). meant_calls x s.own b.block) own k (filter (λ (b : Body). same_name b.name own.name) s.own.bodies) body mine))
 
 -- a block lists all that it calls
 once-or-twice : (twice : Bool) (c : OpName) → In c (call_listed twice c)

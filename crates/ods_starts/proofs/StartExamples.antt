@@ -8,8 +8,10 @@ use Rattle.name_sets.specs.Sets.{has_op}
 use Rattle.name_sets.specs.declared.sets.Ops.{Ops}
 use Rattle.ods_tree.specs.Designs.{Design, Empty, Node, Object}
 use Rattle.ods_tree.specs.declared.design.AttrKey.TheVariants.{Period}
-use Rattle.ods_tree.specs.declared.design.Kind.TheVariants.{Cyclic}
-use Rattle.ods_starts.specs.Spreading.{IsSeen, body_steps, found_all, found_more, reaches, spread, steps_in}
+use Rattle.ods_index.specs.Calling.{Calls}
+use Rattle.ods_tree.specs.declared.design.Kind.{Kind}
+use Rattle.ods_tree.specs.declared.design.Kind.TheVariants.{Cyclic, Protected}
+use Rattle.ods_starts.specs.Spreading.{IsSeen, body_steps, found_all, found_more, reaches, spread}
 
 abbrev set : OpName
 set = record { object = codes "q"; op = codes "set" }
@@ -68,21 +70,24 @@ seen_none s none n = none n
 seen_some : (s : Ops) → ((n : OpName) → has_op s n ≡ false) → IsSeen s (set ∷ []) → ⊥
 seen_some s none seen = (let z : false ≡ true = sym (none set) ∙ seen set in cc)
 
-body_of_name : body_steps (small []) (record { object = codes "a"; op = codes "do" }) (codes "a") (set ∷ [])
-    (record { name = codes "do"; locals = []; block = Then (Call (codes "q") (codes "set") []) End }) ≡ set ∷ []
+-- the body of the operation of an object of this kind that calls q.set
+abbrev body_in : Kind → Calls
+body_in kind = record {
+  kind = kind;
+  name = record { object = codes "a"; op = codes "do" };
+  needs = set ∷ [];
+  block = Then (Call (codes "q") (codes "set") []) End;
+  meant = set ∷ [];
+}
+
+body_of_name : body_steps (record { object = codes "a"; op = codes "do" }) (body_in Protected) ≡ set ∷ []
 body_of_name = refl
 
-body_of_other_name : body_steps (small []) (record { object = codes "a"; op = codes "go" }) (codes "a") (set ∷ [])
-    (record { name = codes "do"; locals = []; block = Then (Call (codes "q") (codes "set") []) End }) ≡ []
+body_of_other_name : body_steps (record { object = codes "a"; op = codes "go" }) (body_in Protected) ≡ []
 body_of_other_name = refl
 
-steps_of_object : steps_in (small []) (record { object = codes "a"; op = codes "do" })
-    (record { own = caller (set ∷ []); parent = None; siblings = []; children = [] }) ≡ set ∷ []
-steps_of_object = refl
-
-no_steps_without_need : steps_in (small []) (record { object = codes "a"; op = codes "do" })
-    (record { own = caller []; parent = None; siblings = []; children = [] }) ≡ []
-no_steps_without_need = refl
+body_of_other_kind : body_steps (record { object = codes "a"; op = codes "do" }) (body_in Cyclic) ≡ []
+body_of_other_kind = refl
 
 reached_by_call : reaches (small (set ∷ [])) (caller (set ∷ [])) (codes "q") ≡ true
 reached_by_call = refl

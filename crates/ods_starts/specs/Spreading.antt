@@ -1,17 +1,17 @@
 -- What threads can start: the operations that a thread calls, itself or through protected operations, found level by level.
 -- Each operation is found once, in the order in which calls lead to it.
-use Rattle.std.specs.Prelude.{◌≡◌, ℕ, zero, suc, Bool, List, [], ◌∷◌, ◌++◌, map, filter, flat_map, drop, length, if◌then◌else◌, option_to_list}
+use Rattle.std.specs.Prelude.{◌≡◌, ◌&&◌, ℕ, zero, suc, Bool, List, [], ◌∷◌, ◌++◌, map, flat_map, drop, length, if◌then◌else◌, option_to_list}
 use Rattle.std.specs.List.{list_any}
-use Rattle.seq_tree.specs.Calls.{block_calls, same_op}
+use Rattle.seq_tree.specs.Calls.{same_op}
 use Rattle.seq_tree.specs.Names.{Name, same_name}
 use Rattle.seq_tree.specs.declared.tree.OpName.{OpName}
 use Rattle.name_sets.specs.Sets.{has_op}
 use Rattle.name_sets.specs.Tables.{at, listed, named}
 use Rattle.name_sets.specs.declared.sets.Ops.{Ops}
-use Rattle.ods_tree.specs.Designs.{Body, Object, Design}
-use Rattle.ods_tree.specs.Links.{resolve}
-use Rattle.ods_tree.specs.Walk.{Standing}
+use Rattle.ods_tree.specs.Designs.{Object, Design}
+use Rattle.ods_tree.specs.Flattening.{is_protected}
 use Rattle.design_rules.specs.Rings.{thread_calls, meant_calls}
+use Rattle.ods_index.specs.Calling.{Calls}
 use Rattle.ods_index.specs.Linked.{op_of}
 use Rattle.ods_starts.specs.declared.starts.BodyCalls.{BodyCalls}
 use Rattle.ods_starts.specs.declared.starts.Inner.{Inner}
@@ -24,15 +24,9 @@ body_at t name = map op_of (listed (named t.calls name))
 unfoldable pub inner_at : Inner → OpName → List OpName
 inner_at t name = map op_of (listed (at t.calls name))
 
--- the required calls of a body, links followed, where it is that of an operation of this name
-abbrev pub body_steps : Design → OpName → Name → List OpName → Body → List OpName
-body_steps x name object needs b =
-    if same_op (record { object = object; op = b.name }) name
-    then map (resolve x) (filter (λ c. list_any (same_op c) needs) (block_calls b.block)) else []
-
--- those of the bodies of an object
-abbrev pub steps_in : Design → OpName → Standing → List OpName
-steps_in x name s = flat_map (body_steps x name s.own.name s.own.needs) s.own.bodies
+-- what a body of a protected object calls, where it is that of an operation of this name
+abbrev pub body_steps : OpName → Calls → List OpName
+body_steps name c = if is_protected c.kind && same_op c.name name then c.meant else []
 
 -- an operation more, where it wasn't found before
 unfoldable pub found_more : List OpName → OpName → List OpName

@@ -1,6 +1,6 @@
 //! What the threads of a design call and start: themselves, and through protected operations, links followed.
 //!
-//! It stands on the index of `ods_index`, the rules of `design_rules` and the calls of `seq_cost`. `Starts` carries its promise: what a
+//! It stands on the links and the graph of calls of `ods_index`, and on the rules of `design_rules`. `Starts` carries its promise: what a
 //! thread calls is found so deep as there are operations, each once. The rules on rings, sources and spacings stand on it.
 //!
 //! Other crates may cite these proofs of it (`proofs/Shared`):
@@ -14,5 +14,5 @@
 mod starts;
 
 pub use starts::{
-    BodyCalls, Inner, Starts, find_all, follow_all, meant_calls, search, thread_starts, threads_of,
+    BodyCalls, Inner, Starts, find_all, follow_all, search, thread_starts, threads_of,
 };

@@ -1,30 +1,27 @@
 ghost use Rattle.std.specs.Prelude.{◌≡◌, ◌≤◌, ◌∷◌, ◌++◌, [], Bool, IfOk, OnOk, drop, filter, flat_map, if◌then◌else◌, length, map, option_map};
 ghost use Rattle.std.specs.Prelude.{unwrap_or, is_some};
 ghost use Rattle.std.specs.List.{list_any};
-ghost use Rattle.seq_tree.specs.Calls.{block_calls, same_op};
+ghost use Rattle.seq_tree.specs.Calls.{same_op};
 ghost use Rattle.seq_tree.specs.Names.{Name as NameTree, same_name};
-ghost use Rattle.seq_tree.specs.Trees.{block_of};
 ghost use Rattle.seq_tree.specs.declared.tree.OpName.{OpName as OpTree};
 ghost use Rattle.name_sets.specs.Places.{place_in};
-ghost use Rattle.seq_cost.specs.Different.{call_of};
-ghost use Rattle.ods_tree.specs.Flattening.{is_protected};
-ghost use Rattle.ods_tree.specs.Links.{resolve};
-ghost use Rattle.ods_tree.specs.Trees.{body_of, design_of};
+ghost use Rattle.ods_tree.specs.Trees.{design_of};
 ghost use Rattle.ods_tree.specs.Walk.{is_terminal};
 ghost use Rattle.design_rules.specs.Lookups.{has_thread};
 ghost use Rattle.design_rules.specs.Rings.{inner_calls, terminal_ops, thread_calls};
+ghost use Rattle.ods_index.specs.Calling.{calls_of};
 ghost use Rattle.ods_index.specs.Indexing.{IsIndex};
 ghost use Rattle.ods_index.specs.Linked.{op_of};
-ghost use Rattle.ods_starts.specs.Spreading.{direct_calls, IsSeen, body_at, body_steps, found_all, found_more, inner_at, reaches, spread, steps_in};
+ghost use Rattle.ods_starts.specs.Spreading.{direct_calls, IsSeen, body_at, body_steps, found_all, found_more, inner_at, reaches, spread};
 ghost use Rattle.ods_index.specs.Walking.{object_of, standing_of};
 
 use name_sets::{NameTable, OpTable, Ops, Places};
 use ods_index::{
-    Index, Links, OpView, Required, Standing, has_thread, is_protected, is_terminal, ops_of,
+    Index, Links, OpCalls, OpView, Required, Standing, has_thread, is_protected, is_terminal,
+    meant_calls, ops_of,
 };
-use ods_tree::{Node, OpBody};
-use seq_cost::{Call, written_calls};
-use seq_tree::{Block, Name, NoMemory};
+use ods_tree::Node;
+use seq_tree::{Name, NoMemory};
 use std::alloc::Global;
 
 /// Operations by names: those whose bodies call an operation of an object, by the name of the object.
@@ -107,59 +104,6 @@ impl<'a> Inner<'a> {
     {
         self.calls.extend(alloc, object, op, calls.to_vec(alloc)?)
     }
-}
-
-/// Adds what a call means, where it is required.
-fn add_meant<'a>(
-    links: &Links<'a>,
-    needs: &Required<'a>,
-    call: &Call<'a>,
-    into: &mut Vec<OpView<'a>>,
-) -> Result<(), NoMemory>
-    ensures { OnOk result (map op_of into.new.items ≡ map op_of into.old.items
-        ++ map (resolve (design_of links.now.design.now)) (filter (λ c. list_any (same_op c) needs.now.ops.now) (call_of call.entry.now ∷ []))) }
-{
-    if !needs.has(call) {
-        return Ok(());
-    }
-    into.push(links.resolve(OpView {
-        object: call.object,
-        op: call.op,
-    }))?;
-    Ok(())
-}
-
-/// Adds what calls mean, where they are required.
-fn add_all_meant<'a>(
-    links: &Links<'a>,
-    needs: &Required<'a>,
-    calls: &[Call<'a>],
-    into: &mut Vec<OpView<'a>>,
-) -> Result<(), NoMemory>
-    ensures { OnOk result (map op_of into.new.items ≡ map op_of into.old.items
-        ++ map (resolve (design_of links.now.design.now)) (filter (λ c. list_any (same_op c) needs.now.ops.now) (map call_of calls.entry.now))) }
-{
-    'calls: for call in calls {
-        add_meant(links, needs, call, into)?;
-    }
-    Ok(())
-}
-
-/// What a block of an object calls, as it is required, links followed.
-pub fn meant_calls<'a>(
-    alloc: Global,
-    links: &Links<'a>,
-    needs: &Required<'a>,
-    block: &'a Block,
-) -> Result<Vec<OpView<'a>>, NoMemory>
-    ensures { IfOk result (λ v. map op_of v.items
-        ≡ map (resolve (design_of links.now.design.now))
-        (filter (λ c. list_any (same_op c) needs.now.ops.now) (block_calls (block_of block.entry.now)))) }
-{
-    let calls = written_calls(alloc, block)?;
-    let mut meant = Vec::new(alloc);
-    add_all_meant(links, needs, calls.as_slice(), &mut meant)?;
-    Ok(meant)
 }
 
 /// Adds an operation, where it wasn't found before.
@@ -273,83 +217,23 @@ pub fn search<'a>(
     Ok(found)
 }
 
-/// Adds what a body of an object calls.
-fn add_body<'a>(
-    alloc: Global,
-    links: &Links<'a>,
-    object: &'a Name,
-    needs: &Required<'a>,
-    body: &'a OpBody,
-    inner: &mut Inner<'a>,
-) -> Result<(), NoMemory>
-    ensures { OnOk result ((n : OpTree) → inner_at inner.new n ≡ inner_at inner.old n
-        ++ body_steps (design_of links.now.design.now) n object.entry.now needs.now.ops.now (body_of body.entry.now)) }
+/// Adds what a body calls, where its object is protected.
+fn add_body<'a>(alloc: Global, body: &OpCalls<'a>, inner: &mut Inner<'a>) -> Result<(), NoMemory>
+    ensures { OnOk result ((n : OpTree) → inner_at inner.new n ≡ inner_at inner.old n ++ body_steps n (calls_of body.entry.now)) }
 {
-    let calls = meant_calls(alloc, links, needs, &body.block)?;
-    inner.add(alloc, object, &body.name, calls.as_slice())
-}
-
-/// Adds what the bodies of an object call.
-fn add_bodies<'a>(
-    alloc: Global,
-    links: &Links<'a>,
-    object: &'a Name,
-    needs: &Required<'a>,
-    bodies: &'a [OpBody],
-    inner: &mut Inner<'a>,
-) -> Result<(), NoMemory>
-    ensures { OnOk result ((n : OpTree) → inner_at inner.new n ≡ inner_at inner.old n
-        ++ flat_map (body_steps (design_of links.now.design.now) n object.entry.now needs.now.ops.now) (map body_of bodies.entry.now)) }
-{
-    'bodies: for body in bodies {
-        add_body(alloc, links, object, needs, body, inner)?;
-    }
-    Ok(())
-}
-
-/// Adds what the bodies of an object call, where it is protected and has no children.
-#[tactic(auto, using(ods_index::proofs::Shared::WalkSteps::node_steps))]
-fn add_object<'a>(
-    alloc: Global,
-    links: &Links<'a>,
-    standing: &Standing<'a>,
-    inner: &mut Inner<'a>,
-) -> Result<(), NoMemory>
-    ensures { OnOk result ((n : OpTree) → inner_at inner.new n ≡ inner_at inner.old n
-        ++ flat_map (steps_in (design_of links.now.design.now) n)
-        (filter (λ s. is_protected s.own.kind) (filter is_terminal (standing_of standing.entry.now ∷ [])))) }
-{
-    let node = standing.node;
-    if !is_terminal(node) {
+    if !is_protected(body.kind) {
         return Ok(());
     }
-    if !is_protected(node.kind) {
-        return Ok(());
-    }
-    let needs = Required::new(alloc, node.needs.as_slice())?;
-    add_bodies(
-        alloc,
-        links,
-        &node.name,
-        &needs,
-        node.bodies.as_slice(),
-        inner,
-    )
+    inner.add(alloc, body.object, body.op, body.meant.as_slice())
 }
 
-/// What the bodies of the terminal protected ones of these objects call.
-fn inner_of<'a>(
-    alloc: Global,
-    links: &Links<'a>,
-    objects: &[Standing<'a>],
-) -> Result<Inner<'a>, NoMemory>
-    ensures { IfOk result (λ t. (n : OpTree) → inner_at t n
-        ≡ flat_map (steps_in (design_of links.now.design.now) n)
-        (filter (λ s. is_protected s.own.kind) (filter is_terminal (map standing_of objects.entry.now)))) }
+/// What those of protected objects of these bodies call.
+fn inner_of<'a>(alloc: Global, calls: &[OpCalls<'a>]) -> Result<Inner<'a>, NoMemory>
+    ensures { IfOk result (λ t. (n : OpTree) → inner_at t n ≡ flat_map (body_steps n) (map calls_of calls.entry.now)) }
 {
     let mut inner = Inner::new(alloc);
-    'objects: for standing in objects {
-        add_object(alloc, links, standing, &mut inner)?;
+    'calls: for body in calls {
+        add_body(alloc, body, &mut inner)?;
     }
     Ok(inner)
 }
@@ -445,26 +329,25 @@ fn all_starts<'a>(
 
 /// What threads can start.
 #[derive(Drop)]
-pub struct Starts<'a> {
-    pub links: Links<'a>,
+pub struct Starts<'k, 'a> {
+    pub links: &'k Links<'a>,
     inner: Inner<'a>,
     pub depth: usize,
-    ghost leads: { (n : OpTree) → inner_at inner n ≡ inner_calls (design_of links.design.now) n },
-    ghost deep: { depth ≡ length (terminal_ops (design_of links.design.now)) },
+    ghost leads: { (n : OpTree) → inner_at inner n ≡ inner_calls (design_of links.now.design.now) n },
+    ghost deep: { depth ≡ length (terminal_ops (design_of links.now.design.now)) },
 }
 
-impl<'a> Starts<'a> {
+impl<'k, 'a> Starts<'k, 'a> {
     /// What the threads of a design can start.
-    pub fn new(alloc: Global, index: &Index<'a>) -> Result<Starts<'a>, NoMemory>
+    pub fn new(alloc: Global, index: &'k Index<'a>) -> Result<Starts<'k, 'a>, NoMemory>
         requires { IsIndex index.now }
-        ensures { IfOk result (λ s. s.links.design.now ≡ index.now.design.now) }
+        ensures { IfOk result (λ s. s.links.now.design.now ≡ index.now.design.now) }
     {
-        let links = Links::new(alloc, index.design)?;
-        let inner = inner_of(alloc, &links, index.objects.as_slice())?;
+        let inner = inner_of(alloc, index.calls.as_slice())?;
         let ops = ops_of(alloc, index.objects.as_slice())?;
         let depth = ops.len();
         Ok(Starts {
-            links,
+            links: &index.links,
             inner,
             depth,
         })
@@ -473,20 +356,21 @@ impl<'a> Starts<'a> {
     /// The operations that the thread of an object calls, itself or through protected ones, each once.
     pub fn calls(&self, alloc: Global, node: &'a Node) -> Result<Vec<OpView<'a>>, NoMemory>
         ensures { IfOk result (λ v. (test : OpTree → Bool) → list_any test (map op_of v.items)
-            ≡ list_any test (thread_calls (design_of self.now.links.design.now) (object_of node.entry.now))) }
+            ≡ list_any test (thread_calls (design_of self.now.links.now.design.now) (object_of node.entry.now))) }
     {
-        let starts = thread_starts(alloc, &self.links, node)?;
+        let starts = thread_starts(alloc, self.links, node)?;
         search(alloc, &self.inner, self.depth, starts.as_slice())
     }
 
     /// A table of the names of the objects of which the thread of an object calls operations, itself or through protected ones.
     pub fn reached(&self, alloc: Global, node: &'a Node) -> Result<Places<'a>, NoMemory>
         ensures { IfOk result (λ t. (n : NameTree) → is_some (place_in t n)
-            ≡ reaches (design_of self.now.links.design.now) (object_of node.entry.now) n) }
+            ≡ reaches (design_of self.now.links.now.design.now) (object_of node.entry.now) n) }
     {
         let found = self.calls(alloc, node)?;
         names_of(alloc, found.as_slice())
     }
+
     /// A table of the names of the objects of which one of these threads calls operations, itself or through protected ones.
     pub fn reached_by_any(
         &self,
@@ -494,9 +378,9 @@ impl<'a> Starts<'a> {
         threads: &[&'a Node],
     ) -> Result<Places<'a>, NoMemory>
         ensures { IfOk result (λ t. (n : NameTree) → is_some (place_in t n)
-            ≡ list_any (λ o. reaches (design_of self.now.links.design.now) o n) (map (λ t. object_of t.now) threads.entry.now)) }
+            ≡ list_any (λ o. reaches (design_of self.now.links.now.design.now) o n) (map (λ t. object_of t.now) threads.entry.now)) }
     {
-        let starts = all_starts(alloc, &self.links, threads)?;
+        let starts = all_starts(alloc, self.links, threads)?;
         let found = search(alloc, &self.inner, self.depth, starts.as_slice())?;
         names_of(alloc, found.as_slice())
     }

@@ -13,7 +13,9 @@ use Rattle.seq_tree.proofs.Shared.Walks.{same_op-eq, within}
 use Rattle.ods_tree.specs.Designs.{Body, Design, Object}
 use Rattle.ods_tree.specs.Walk.{Standing}
 use Rattle.design_rules.specs.Rings.{calls_within, inner_calls, meant_calls, operation_calls, terminal_ops}
-use Rattle.ods_starts.specs.Spreading.{body_steps, found_all, found_more, spread, steps_in, direct_calls, reaches}
+use Rattle.ods_starts.specs.Spreading.{body_steps, found_all, found_more, spread, direct_calls, reaches}
+use Rattle.ods_index.specs.Calling.{body_calls, object_calls}
+use Rattle.ods_tree.specs.Flattening.{is_protected}
 use Rattle.std.proofs.lemmas.List.Concat.{flat_map-append}
 use Rattle.std.proofs.lemmas.List.Folds.{list_any-append}
 
@@ -300,40 +302,57 @@ pub ruleset spread_laws = (found-append)
 pub ruleset thread_laws = (append-nil)
 
 -- the calls that are kept are those of protected operations
-body-steps : (x : Design) (n : OpName) (o : Object) (bs : List Body) → same_name o.name n.object ≡ true
-    → flat_map (body_steps x n o.name o.needs) bs ≡ flat_map (λ b. meant_calls x o b.block) (filter (λ b. same_name b.name n.op) bs)
-body-steps x n o [] e = refl
-body-steps x n o (b ∷ bs) e = by (same_name b.name n.op) refl (body-steps x n o bs e)
+body-steps : (x : Design) (n : OpName) (o : Object) (bs : List Body) → is_protected o.kind ≡ true → same_name o.name n.object ≡ true
+    → flat_map (body_steps n) (map (body_calls x o.kind o.name o.needs) bs)
+    ≡ flat_map (λ b. meant_calls x o b.block) (filter (λ b. same_name b.name n.op) bs)
+body-steps x n o [] p e = refl
+body-steps x n o (b ∷ bs) p e = by (same_name b.name n.op) refl (body-steps x n o bs p e)
   where
-    by : (t : Bool) → same_name b.name n.op ≡ t → flat_map (body_steps x n o.name o.needs) bs
+    by : (t : Bool) → same_name b.name n.op ≡ t → flat_map (body_steps n) (map (body_calls x o.kind o.name o.needs) bs)
         ≡ flat_map (λ d. meant_calls x o d.block) (filter (λ d. same_name d.name n.op) bs)
-        → (if same_name o.name n.object && same_name b.name n.op then meant_calls x o b.block else []) ++ flat_map (body_steps x n o.name o.needs) bs
+        → (if is_protected o.kind && (same_name o.name n.object && same_name b.name n.op) then meant_calls x o b.block else [])
+        ++ flat_map (body_steps n) (map (body_calls x o.kind o.name o.needs) bs)
         ≡ flat_map (λ d. meant_calls x o d.block)
         (if same_name b.name n.op then b ∷ filter (λ d. same_name d.name n.op) bs else filter (λ d. same_name d.name n.op) bs)
-    by true t k = rw (e, t) (ap (λ l. meant_calls x o b.block ++ l) k)
-    by false t k = rw (e, t) k
+    by true t k = rw (p, e, t) (ap (λ l. meant_calls x o b.block ++ l) k)
+    by false t k = rw (p, e, t) k
 
-no-steps : (x : Design) (n : OpName) (o : Object) (bs : List Body) → same_name o.name n.object ≡ false
-    → flat_map (body_steps x n o.name o.needs) bs ≡ []
+no-steps : (x : Design) (n : OpName) (o : Object) (bs : List Body) → (is_protected o.kind && same_name o.name n.object) ≡ false
+    → flat_map (body_steps n) (map (body_calls x o.kind o.name o.needs) bs) ≡ []
 no-steps x n o [] e = refl
 no-steps x n o (b ∷ bs) e =
-    ap (λ t. (if t && same_name b.name n.op then meant_calls x o b.block else []) ++ flat_map (body_steps x n o.name o.needs) bs) e
+    ap (λ t. (if t then meant_calls x o b.block else []) ++ flat_map (body_steps n) (map (body_calls x o.kind o.name o.needs) bs))
+    (none (is_protected o.kind) (same_name o.name n.object) (same_name b.name n.op) e)
     ∙ no-steps x n o bs e
-
-pub inner-steps : (x : Design) (n : OpName) (ss : List Standing) → flat_map (steps_in x n) ss
-    ≡ flat_map (λ o. operation_calls x o n.op) (filter (λ o. same_name o.name n.object) (map (λ s. s.own) ss))
-inner-steps x n [] = refl
-inner-steps x n (s ∷ ss) = by (same_name s.own.name n.object) refl (inner-steps x n ss)
   where
-    by : (t : Bool) → same_name s.own.name n.object ≡ t → flat_map (steps_in x n) ss
-        ≡ flat_map (λ o. operation_calls x o n.op) (filter (λ o. same_name o.name n.object) (map (λ s. s.own) ss))
-        → flat_map (body_steps x n s.own.name s.own.needs) s.own.bodies ++ flat_map (steps_in x n) ss
-        ≡ flat_map (λ o. operation_calls x o n.op)
-        (if same_name s.own.name n.object then s.own ∷ filter (λ o. same_name o.name n.object) (map (λ s. s.own) ss)
-        else filter (λ o. same_name o.name n.object) (map (λ s. s.own) ss))
-    by true t k =
-        rw t (ap (λ l. l ++ flat_map (steps_in x n) ss) (body-steps x n s.own s.own.bodies t) ∙ ap (λ l. operation_calls x s.own n.op ++ l) k)
-    by false t k = rw t (ap (λ l. l ++ flat_map (steps_in x n) ss) (no-steps x n s.own s.own.bodies t) ∙ k)
+    none : (p s t : Bool) → (p && s) ≡ false → (p && (s && t)) ≡ false
+    none false s t h = refl
+    none true false t h = refl
+    none true true t h = absurd (cc)
+
+pub inner-steps : (x : Design) (n : OpName) (ss : List Standing) → flat_map (body_steps n) (flat_map (λ s. object_calls x s.own) ss)
+    ≡ flat_map (λ o. operation_calls x o n.op)
+    (filter (λ o. same_name o.name n.object) (map (λ s. s.own) (filter (λ s. is_protected s.own.kind) ss)))
+inner-steps x n [] = refl
+inner-steps x n (s ∷ ss) =
+    flat_map-append (body_steps n) (object_calls x s.own) (flat_map (λ s. object_calls x s.own) ss)
+    ∙ by (is_protected s.own.kind) (same_name s.own.name n.object) refl refl (inner-steps x n ss)
+  where
+    by : (p t : Bool) → is_protected s.own.kind ≡ p → same_name s.own.name n.object ≡ t
+        → flat_map (body_steps n) (flat_map (λ s. object_calls x s.own) ss) ≡ flat_map (λ o. operation_calls x o n.op)
+        (filter (λ o. same_name o.name n.object) (map (λ s. s.own) (filter (λ s. is_protected s.own.kind) ss)))
+        → flat_map (body_steps n) (object_calls x s.own) ++ flat_map (body_steps n) (flat_map (λ s. object_calls x s.own) ss)
+        ≡ flat_map (λ o. operation_calls x o n.op) (filter (λ o. same_name o.name n.object) (map (λ s. s.own)
+        (if p then s ∷ filter (λ s. is_protected s.own.kind) ss else filter (λ s. is_protected s.own.kind) ss)))
+    by true true p t k =
+        rw t (ap (λ l. l ++ flat_map (body_steps n) (flat_map (λ s. object_calls x s.own) ss)) (body-steps x n s.own s.own.bodies p t)
+        ∙ ap (λ l. operation_calls x s.own n.op ++ l) k)
+    by true false p t k =
+        rw t (ap (λ l. l ++ flat_map (body_steps n) (flat_map (λ s. object_calls x s.own) ss))
+        (no-steps x n s.own s.own.bodies (ap (λ b. b && same_name s.own.name n.object) p ∙ t)) ∙ k)
+    by false t p e k =
+        ap (λ l. l ++ flat_map (body_steps n) (flat_map (λ s. object_calls x s.own) ss))
+        (no-steps x n s.own s.own.bodies (ap (λ b. b && same_name s.own.name n.object) p)) ∙ k
 
 -- one name more in a table
 pub named-more : (own n : Name) (after before : Option ℕ) (left : Bool) → after ≡ cond (same_name own n) (Some 0) before

@@ -14,7 +14,7 @@ use Rattle.ods_starts.proofs.starts.Starts.calls.Goals as goal
 pub returns : goal.returns
 returns c =
     let self = c.args.self.now in
-    let x = design_of self.links.design.now in
+    let x = design_of self.links.now.design.now in
     let o = object_of c.args.node.now in
     let own = flat_map (meant_calls x o) (option_to_list o.thread) in
     let next = inner_at self.inner in

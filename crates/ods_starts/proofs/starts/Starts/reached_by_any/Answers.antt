@@ -15,7 +15,7 @@ use Rattle.ods_starts.proofs.starts.Starts.reached_by_any.Goals as goal
 pub returns : goal.returns
 returns c =
     let self = c.args.self.now in
-    let x = design_of self.links.design.now in
+    let x = design_of self.links.now.design.now in
     let os = map (λ t. object_of t.now) c.args.threads.now in
     let next = inner_at self.inner in
     let starts : map op_of c.as_slice.result.now ≡ flat_map (direct_calls x) os = ap (map op_of) c.as_slice.ensures.value ∙ c.in_ok-starts.ensures in

@@ -1,11 +1,12 @@
 //! The bodies of protected operations in a design, and the names by which ways of calls through these and threads are found.
 //!
-//! It stands on the index of `ods_index`, the rules of `design_rules` and the callers of `call_graph`. Each call carries its promise by
+//! It stands on the graph of calls of `ods_index`, the rules of `design_rules` and the callers of `call_graph`. Each call carries its promise by
 //! the definitions of its specs: all bodies in order, and of each what it calls.
 //!
 //! Other crates may cite these proofs of it (`proofs/Shared`):
 //!
-//! - `CalledLaws`: a protected operation makes the calls of its bodies, and a body lists all that it calls.
+//! - `CalledLaws`: which bodies are held and what their calls mean, that a protected operation makes the calls of its bodies, and that a body
+//!   lists all that it calls.
 //! - `Items`: items of lists that are made from others.
 #![tactic(auto)]
 

@@ -1,4 +1,4 @@
--- Which bodies make the calls of protected operations, and that a body lists all calls that it makes.
+-- Which bodies are held, which of them make the calls of protected operations, and that a body lists all calls that it makes.
 -- What a body calls it lists also by the name that its way and its rank have.
 use Rattle.std.proofs.Common.{◌≡◌, inl, inr, ◌⊎◌, Bool, true, false, not, ◌&&◌, ◌||◌, List, [], ◌∷◌, ◌++◌, map, filter, flat_map, refl, ap, sym, subst, ◌∙◌}
 use Rattle.std.specs.Prelude.{if◌then◌else◌}
@@ -67,7 +67,7 @@ held-of-objects x (s ∷ ss) =
     by false e = e
 
 -- one that is held is a body of a terminal protected object
-pub held-from : (x : Design) (h : Calls) → In h (held_bodies x) → (s : Standing) × In s (filter (λ (s : Standing). is_protected s.own.kind) (terminals x))
+held-from : (x : Design) (h : Calls) → In h (held_bodies x) → (s : Standing) × In s (filter (λ (s : Standing). is_protected s.own.kind) (terminals x))
     × (b : Body) × In b s.own.bodies × (body_calls x s.own.kind s.own.name s.own.needs b ≡ h)
 held-from x h at =
     let P : List Calls → Type 0 = λ hs. In h hs in

@@ -1,7 +1,7 @@
 -- What is found level by level is what calls lead to, so deep as there are levels.
 use Rattle.std.proofs.Common.{◌≡◌, ◌⊎◌, inl, inr, ℕ, zero, suc, ◌+◌, ◌-◌, ◌<◌, ◌≤◌, Bool, true, false, cond, List, [], ◌∷◌, ◌++◌, Option, Some, map}
 use Rattle.std.proofs.Common.{filter, flat_map, drop, length, ◌&&◌, ◌||◌, arith, refl, ap, sym, subst, ◌∙◌, append_assoc}
-use Rattle.std.specs.Prelude.{if◌then◌else◌, is_some}
+use Rattle.std.specs.Prelude.{if◌then◌else◌}
 use Rattle.std.specs.List.{list_any}
 use Rattle.std.proofs.lemmas.List.{append-nil, length-append}
 use Rattle.std.proofs.Math.ListN.{drop_of_length-le}
@@ -302,33 +302,25 @@ pub ruleset spread_laws = (found-append)
 pub ruleset thread_laws = (append-nil)
 
 -- the calls that are kept are those of protected operations
-body-steps : (x : Design) (n : OpName) (o : Object) (bs : List Body) → is_protected o.kind ≡ true → same_name o.name n.object ≡ true
-    → flat_map (body_steps n) (map (body_calls x o.kind o.name o.needs) bs)
-    ≡ flat_map (λ b. meant_calls x o b.block) (filter (λ b. same_name b.name n.op) bs)
-body-steps x n o [] p e = refl
-body-steps x n o (b ∷ bs) p e = by (same_name b.name n.op) refl (body-steps x n o bs p e)
+own-steps : (x : Design) (n : OpName) (o : Object) (bs : List Body) → flat_map (body_steps n) (map (body_calls x o.kind o.name o.needs) bs)
+    ≡ (if is_protected o.kind && same_name o.name n.object
+    then flat_map (λ b. meant_calls x o b.block) (filter (λ b. same_name b.name n.op) bs) else [])
+own-steps x n o [] = by (is_protected o.kind && same_name o.name n.object)
   where
-    by : (t : Bool) → same_name b.name n.op ≡ t → flat_map (body_steps n) (map (body_calls x o.kind o.name o.needs) bs)
-        ≡ flat_map (λ d. meant_calls x o d.block) (filter (λ d. same_name d.name n.op) bs)
-        → (if is_protected o.kind && (same_name o.name n.object && same_name b.name n.op) then meant_calls x o b.block else [])
-        ++ flat_map (body_steps n) (map (body_calls x o.kind o.name o.needs) bs)
-        ≡ flat_map (λ d. meant_calls x o d.block)
-        (if same_name b.name n.op then b ∷ filter (λ d. same_name d.name n.op) bs else filter (λ d. same_name d.name n.op) bs)
-    by true t k = rw (p, e, t) (ap (λ l. meant_calls x o b.block ++ l) k)
-    by false t k = rw (p, e, t) k
-
-no-steps : (x : Design) (n : OpName) (o : Object) (bs : List Body) → (is_protected o.kind && same_name o.name n.object) ≡ false
-    → flat_map (body_steps n) (map (body_calls x o.kind o.name o.needs) bs) ≡ []
-no-steps x n o [] e = refl
-no-steps x n o (b ∷ bs) e =
-    ap (λ t. (if t then meant_calls x o b.block else []) ++ flat_map (body_steps n) (map (body_calls x o.kind o.name o.needs) bs))
-    (none (is_protected o.kind) (same_name o.name n.object) (same_name b.name n.op) e)
-    ∙ no-steps x n o bs e
+    by : (t : Bool) → flat_map (body_steps n) [] ≡ (if t then flat_map (body_steps n) [] else [])
+    by true = refl
+    by false = refl
+own-steps x n o (b ∷ bs) = by (is_protected o.kind) (same_name o.name n.object) (same_name b.name n.op) (own-steps x n o bs)
   where
-    none : (p s t : Bool) → (p && s) ≡ false → (p && (s && t)) ≡ false
-    none false s t h = refl
-    none true false t h = refl
-    none true true t h = absurd (cc)
+    by : (p s t : Bool) → flat_map (body_steps n) (map (body_calls x o.kind o.name o.needs) bs)
+        ≡ (if p && s then flat_map (λ d. meant_calls x o d.block) (filter (λ d. same_name d.name n.op) bs) else [])
+        → (if p && (s && t) then meant_calls x o b.block else []) ++ flat_map (body_steps n) (map (body_calls x o.kind o.name o.needs) bs)
+        ≡ (if p && s then flat_map (λ d. meant_calls x o d.block)
+        (if t then b ∷ filter (λ d. same_name d.name n.op) bs else filter (λ d. same_name d.name n.op) bs) else [])
+    by true true true e = ap (λ l. meant_calls x o b.block ++ l) e
+    by true true false e = e
+    by true false t e = e
+    by false s t e = e
 
 pub inner-steps : (x : Design) (n : OpName) (ss : List Standing) → flat_map (body_steps n) (flat_map (λ s. object_calls x s.own) ss)
     ≡ flat_map (λ o. operation_calls x o n.op)
@@ -336,33 +328,22 @@ pub inner-steps : (x : Design) (n : OpName) (ss : List Standing) → flat_map (b
 inner-steps x n [] = refl
 inner-steps x n (s ∷ ss) =
     flat_map-append (body_steps n) (object_calls x s.own) (flat_map (λ s. object_calls x s.own) ss)
-    ∙ by (is_protected s.own.kind) (same_name s.own.name n.object) refl refl (inner-steps x n ss)
+    ∙ ap (λ l. l ++ flat_map (body_steps n) (flat_map (λ s. object_calls x s.own) ss)) (own-steps x n s.own s.own.bodies)
+    ∙ by (is_protected s.own.kind) (inner-steps x n ss)
   where
-    by : (p t : Bool) → is_protected s.own.kind ≡ p → same_name s.own.name n.object ≡ t
-        → flat_map (body_steps n) (flat_map (λ s. object_calls x s.own) ss) ≡ flat_map (λ o. operation_calls x o n.op)
+    named : (t : Bool) (rest : List OpName) (os : List Object) → rest ≡ flat_map (λ o. operation_calls x o n.op) os
+        → (if t then operation_calls x s.own n.op else []) ++ rest ≡ flat_map (λ o. operation_calls x o n.op) (if t then s.own ∷ os else os)
+    named true rest os e = ap (λ l. operation_calls x s.own n.op ++ l) e
+    named false rest os e = e
+
+    by : (p : Bool) → flat_map (body_steps n) (flat_map (λ s. object_calls x s.own) ss) ≡ flat_map (λ o. operation_calls x o n.op)
         (filter (λ o. same_name o.name n.object) (map (λ s. s.own) (filter (λ s. is_protected s.own.kind) ss)))
-        → flat_map (body_steps n) (object_calls x s.own) ++ flat_map (body_steps n) (flat_map (λ s. object_calls x s.own) ss)
+        → (if p && same_name s.own.name n.object then operation_calls x s.own n.op else [])
+        ++ flat_map (body_steps n) (flat_map (λ s. object_calls x s.own) ss)
         ≡ flat_map (λ o. operation_calls x o n.op) (filter (λ o. same_name o.name n.object) (map (λ s. s.own)
         (if p then s ∷ filter (λ s. is_protected s.own.kind) ss else filter (λ s. is_protected s.own.kind) ss)))
-    by true true p t k =
-        rw t (ap (λ l. l ++ flat_map (body_steps n) (flat_map (λ s. object_calls x s.own) ss)) (body-steps x n s.own s.own.bodies p t)
-        ∙ ap (λ l. operation_calls x s.own n.op ++ l) k)
-    by true false p t k =
-        rw t (ap (λ l. l ++ flat_map (body_steps n) (flat_map (λ s. object_calls x s.own) ss))
-        (no-steps x n s.own s.own.bodies (ap (λ b. b && same_name s.own.name n.object) p ∙ t)) ∙ k)
-    by false t p e k =
-        ap (λ l. l ++ flat_map (body_steps n) (flat_map (λ s. object_calls x s.own) ss))
-        (no-steps x n s.own s.own.bodies (ap (λ b. b && same_name s.own.name n.object) p)) ∙ k
-
--- one name more in a table
-pub named-more : (own n : Name) (after before : Option ℕ) (left : Bool) → after ≡ cond (same_name own n) (Some 0) before
-    → (is_some after || left) ≡ (is_some before || (same_name own n || left))
-named-more own n after before left e = ap (λ z. is_some z || left) e ∙ by (same_name own n) (is_some before) refl
-  where
-    by : (t b : Bool) → is_some before ≡ b → (is_some (cond t (Some 0) before) || left) ≡ (is_some before || (t || left))
-    by false b e = refl
-    by true true e = sym (ap (λ z. z || true) e)
-    by true false e = sym (ap (λ z. z || true) e)
+    by true e = named (same_name s.own.name n.object) _ _ e
+    by false e = e
 
 -- what all threads call together reaches what one of them does
 pub reached-any : (x : Design) (n : Name) (os : List Object)

@@ -13,12 +13,12 @@ ghost use Rattle.ods_index.specs.Calling.{calls_of};
 ghost use Rattle.ods_index.specs.Linked.{op_of};
 ghost use Rattle.ods_index.specs.Nodes.{node_object};
 ghost use Rattle.ods_index.specs.Walking.{object_of};
-ghost use Rattle.ods_bodies.specs.Held.{held_of};
+ghost use Rattle.ods_bodies.specs.Held.{is_held};
 ghost use Rattle.ods_bodies.specs.Keys.{has_target, held_caller, is_target, key, keys_in, thread_keys};
 
 use call_graph::{Caller, listed_calls};
 use name_sets::Places;
-use ods_index::{Links, OpCalls, OpView, Required, is_sporadic};
+use ods_index::{Links, OpCalls, OpView, Required, is_protected, is_sporadic};
 use ods_tree::Node;
 use seq_cost::Call;
 use seq_tree::{Block, NoMemory};
@@ -134,7 +134,7 @@ fn keys_of<'a>(
     Ok(keys)
 }
 
-/// Adds a body of a protected operation.
+/// Adds a body, where its object is protected.
 fn add_body<'a>(
     alloc: Global,
     targets: &Places<'a>,
@@ -143,8 +143,11 @@ fn add_body<'a>(
     into: &mut Vec<Caller<'a>>,
 ) -> Result<(), NoMemory>
     ensures { OnOk result (map caller_of into.new.items ≡ map caller_of into.old.items
-        ++ held_caller targets.now (design_of links.now.design.now) (calls_of body.entry.now) ∷ []) }
+        ++ map (held_caller targets.now (design_of links.now.design.now)) (filter is_held (calls_of body.entry.now ∷ []))) }
 {
+    if !is_protected(body.kind) {
+        return Ok(());
+    }
     let calls = keys_of(alloc, targets, links, &body.needs, body.block)?;
     let from = key_of(
         targets,
@@ -160,18 +163,18 @@ fn add_body<'a>(
     Ok(())
 }
 
-/// Adds bodies of protected operations.
+/// Adds those of protected objects of these bodies.
 pub fn add_callers<'a>(
     alloc: Global,
     targets: &Places<'a>,
     links: &Links<'a>,
-    bodies: &[&OpCalls<'a>],
+    calls: &[OpCalls<'a>],
     into: &mut Vec<Caller<'a>>,
 ) -> Result<(), NoMemory>
     ensures { OnOk result (map caller_of into.new.items ≡ map caller_of into.old.items
-        ++ map (held_caller targets.now (design_of links.now.design.now)) (map held_of bodies.entry.now)) }
+        ++ map (held_caller targets.now (design_of links.now.design.now)) (filter is_held (map calls_of calls.entry.now))) }
 {
-    'bodies: for body in bodies {
+    'calls: for body in calls {
         add_body(alloc, targets, links, body, into)?;
     }
     Ok(())

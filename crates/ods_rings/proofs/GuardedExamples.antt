@@ -4,12 +4,13 @@ use Rattle.std.proofs.Common.{true, false, refl}
 use Prim.Native.String.{String}
 use Rattle.seq_tree.specs.Names.{Name}
 use Rattle.seq_tree.specs.declared.tree.OpName.{OpName}
-use Rattle.ods_tree.specs.Designs.{Object, Body, Tree, Node, Design}
+use Rattle.ods_tree.specs.Designs.{Object, Tree, Node, Design}
 use Rattle.ods_tree.specs.Walk.{objects, own_of}
 use Rattle.ods_tree.specs.declared.design.Kind.{Kind}
 use Rattle.ods_tree.specs.declared.design.Kind.TheVariants.{Active, Protected}
 use Rattle.ods_tree.proofs.Shared.Short.{block, call, design, pas, pro, several, trees}
-use Rattle.ods_rings.specs.Guarded.{bodies_edges, edges_at, guard_edges, guards_among, guards_step, meant_edges}
+use Rattle.ods_index.specs.Calling.{Calls, body_calls}
+use Rattle.ods_rings.specs.Guarded.{guard_edges, guard_place, guards_among, guards_step}
 use Rattle.name_sets.specs.FirstPlaces.{place_from}
 
 abbrev op : String → String → OpName
@@ -53,52 +54,40 @@ parent kind needs =
 not_with_children : guards_among (objects (design (Node (parent Protected []) (trees (plain ∷ []))))) ≡ []
 not_with_children = refl
 
+-- the place of a body of a protected object, and none of one of another kind or name
+abbrev calling : Kind → String → OpName → Calls
+calling kind object n = body_calls three kind (codes object) (op "r" "h" ∷ op "p" "f" ∷ op "m" "f" ∷ [])
+    (record { name = codes "g"; locals = []; block = block (call n.object n.op ∷ []) })
+
+protected_body : guard_place place (calling Protected "q" (op "r" "h")) ≡ Some 0
+protected_body = refl
+
+plain_body : guard_place place (calling Active "q" (op "r" "h")) ≡ None
+plain_body = refl
+
+other_body : guard_place place (calling Protected "p" (op "r" "h")) ≡ None
+other_body = refl
+
 -- a call of a protected object, one that its object doesn't require, and one of a passive object
-required_call : meant_edges place three (op "r" "h" ∷ []) 0 (op "r" "h" ∷ []) ≡ (0, 1) ∷ []
+required_call : guard_edges place (calling Protected "q" (op "r" "h")) ≡ (0, 1) ∷ []
 required_call = refl
 
-unrequired_call : meant_edges place three (op "q" "g" ∷ []) 0 (op "r" "h" ∷ []) ≡ []
+unrequired_call : guard_edges place (calling Protected "q" (op "r" "g")) ≡ []
 unrequired_call = refl
 
-plain_call : meant_edges place three (op "p" "f" ∷ []) 0 (op "p" "f" ∷ []) ≡ []
+plain_call : guard_edges place (calling Protected "q" (op "p" "f")) ≡ []
 plain_call = refl
 
--- a call through a link, and one that leads nowhere
+-- a call from an object that isn't protected
+call_from_plain : guard_edges place (calling Active "q" (op "r" "h")) ≡ []
+call_from_plain = refl
+
+-- a call through a link
 abbrev linked : Design
-linked = several (Node (parent Active []) (trees (first ∷ [])) ∷ second ∷ [])
+linked = several (Node (parent Active []) (trees (first ∷ [])) ∷ pro (codes "r") (codes "h") (call (codes "m") (codes "f") ∷ []) ∷ [])
 
-linked_call : meant_edges place linked (op "m" "f" ∷ []) 1 (op "m" "f" ∷ []) ≡ (1, 0) ∷ []
+linked_call : guards_step linked (own_of first ∷ own_of second ∷ []) 1 0 ≡ true
 linked_call = refl
-
-unlinked_call : meant_edges place linked (op "m" "g" ∷ []) 1 (op "m" "g" ∷ []) ≡ []
-unlinked_call = refl
-
--- the edges of two bodies, and of one that calls nothing
-abbrev calling : String → Body
-calling name = record { name = codes name; locals = []; block = block (call (codes "r") (codes "h") ∷ []) }
-
-abbrev idle : Body
-idle = record { name = codes "i"; locals = []; block = block [] }
-
-two_bodies : bodies_edges place three (op "r" "h" ∷ []) 0 (calling "g" ∷ calling "k" ∷ []) ≡ (0, 1) ∷ (0, 1) ∷ []
-two_bodies = refl
-
-idle_body : bodies_edges place three (op "r" "h" ∷ []) 0 (idle ∷ []) ≡ []
-idle_body = refl
-
--- an object at a place, and one without
-placed : edges_at place three (own_of first) (Some 0) ≡ (0, 1) ∷ []
-placed = refl
-
-not_placed : edges_at place three (own_of first) None ≡ []
-not_placed = refl
-
--- the edges of a protected object, and of a passive one
-guarded : guard_edges place three (own_of second) ≡ (1, 0) ∷ []
-guarded = refl
-
-unguarded : guard_edges place three (own_of plain) ≡ []
-unguarded = refl
 
 -- a step goes from one of the two to the other, and from none to itself
 guards_step_is : guards_step three (own_of first ∷ own_of second ∷ []) 0 1 ≡ true

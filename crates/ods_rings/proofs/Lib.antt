@@ -1,6 +1,7 @@
 mod GraphExamples
 mod GuardedExamples
 mod StartingExamples
+pub mod BodyEdges
 pub mod CallRings
 pub mod NamePlaces
 pub mod ObjectRings

@@ -1,6 +1,6 @@
 -- That operations and objects of a list have a place, and the objects that stand at places, also as the code keeps them.
-use Rattle.std.proofs.Common.{◌≡◌, ℕ, zero, suc, Bool, true, false, if◌then◌else◌, List, [], ◌∷◌, map, option_map, slice_get, Some, Bor, inl, inr}
-use Rattle.std.proofs.Common.{refl, sym, ap, ◌∙◌}
+use Rattle.std.proofs.Common.{◌≡◌, ℕ, zero, suc, Bool, true, false, if◌then◌else◌, List, [], ◌∷◌, map, option_map, slice_get, Some, None, Bor, inl}
+use Rattle.std.proofs.Common.{inr, Option, refl, sym, ap, ◌∙◌}
 use Rattle.seq_tree.proofs.Shared.SameNames.{same-self}
 use Rattle.seq_tree.proofs.Shared.Walks.{same_op-refl}
 use Rattle.seq_tree.specs.Calls.{same_op}
@@ -49,15 +49,19 @@ name-at [] i o e = cc
 name-at (q ∷ os) zero o e = let same : q ≡ o = cc in ap (λ z. Some z.name) same
 name-at (q ∷ os) (suc i) o e = name-at os i o e
 
+-- what has a place only where a test passes, passes it
+pub placed-parts : (b : Bool) (o : Option ℕ) (q : ℕ) → (if b then o else None) ≡ Some q → (b ≡ true) × (o ≡ Some q)
+placed-parts true o q e = (refl, e)
+placed-parts false o q e = absurd (cc)
+
 -- the names of objects as the code keeps them
 pub names-same : (nodes : List (Bor Node)) → map node_name nodes ≡ names-of (map node_object nodes)
 names-same [] = refl
 names-same (n ∷ nodes) = ap (λ ns. node_name n ∷ ns) (names-same nodes)
 
--- what is told of the name at a place is told of the object there
-pub tell-same : (told : Name → Broken) (nodes : List (Bor Node)) (k : ℕ) (o : Object) → slice_get (map node_object nodes) k ≡ Some o
-    → option_map (λ n. told (node_name n)) (slice_get nodes k) ≡ Some (told o.name)
-tell-same told [] k o e = cc
-tell-same told (n ∷ nodes) zero o e = let z : Some (node_object n) ≡ Some o = e in let same : node_object n
-    ≡ o = cc in ap (λ q. Some (told q.name)) same
-tell-same told (n ∷ nodes) (suc k) o e = tell-same told nodes k o e
+-- what is told of an item at a place, by what it stands for
+pub tell-same : {A B : Type 0} (see : A → B) (told : B → Broken) (xs : List A) (k : ℕ) (b : B) → slice_get (map see xs) k ≡ Some b
+    → option_map (λ a. told (see a)) (slice_get xs k) ≡ Some (told b)
+tell-same see told [] k b e = cc
+tell-same see told (x ∷ xs) zero b e = let z : Some (see x) ≡ Some b = e in let same : see x ≡ b = cc in ap (λ c. Some (told c)) same
+tell-same see told (x ∷ xs) (suc k) b e = tell-same see told xs k b e

@@ -1,27 +1,27 @@
 -- Rings of calls between protected objects are rings between their places.
-use Rattle.std.proofs.Common.{◌≡◌, ℕ, ◌≤◌, ◌==◌, Bool, true, ◌&&◌, List, map, filter_map, flat_map, length, slice_get, nat_lt, Option, Some, None}
-use Rattle.std.proofs.Common.{Bor, refl, sym, ap, subst, ◌∙◌, arith}
+use Rattle.std.proofs.Common.{◌≡◌, ℕ, ◌≤◌, Bool, true, ◌&&◌, filter, flat_map, length, slice_get, nat_lt, Option, Some, None, refl, sym}
+use Rattle.std.proofs.Common.{ap, subst, ◌∙◌, arith, if◌then◌else◌}
 use Rattle.std.specs.List.{list_any}
-use Rattle.std.proofs.lemmas.Bool.{eqb-true, eq-eqb, and_parts, and_from}
-use Rattle.std.proofs.lemmas.List.{length-map}
+use Rattle.std.proofs.lemmas.Bool.{and_parts, and_from}
 use Rattle.std.proofs.lemmas.Option.{slice_get_within}
 use Rattle.seq_tree.proofs.Shared.SameNames.{same-self, same-is}
-use Rattle.seq_tree.specs.Calls.{block_calls}
 use Rattle.seq_tree.specs.Names.{Name, same_name}
 use Rattle.seq_tree.specs.Rings.{IsOnRing}
 use Rattle.seq_tree.specs.declared.tree.OpName.{OpName}
 use Rattle.ods_tree.specs.Designs.{Body, Object, Design}
-use Rattle.ods_tree.specs.declared.design.Node.{Node}
+use Rattle.ods_tree.specs.Flattening.{is_protected}
+use Rattle.ods_tree.specs.Walk.{Standing, terminals}
 use Rattle.design_rules.specs.Broken.{Broken, V09Objects}
 use Rattle.design_rules.specs.Rings.{CallsObject, calls_object, meant_calls, protected_objects}
 use Rattle.design_rules.specs.Rules.{RingedObject}
-use Rattle.ods_rings.specs.Guarded.{edges_at, guard_edges, meant_edges}
+use Rattle.ods_rings.specs.Guarded.{guard_edges, guard_place}
+use Rattle.ods_index.specs.Calling.{Calls, design_calls}
 use Rattle.ods_index.specs.Judging.{IsFirstOffender}
-use Rattle.ods_index.specs.Nodes.{node_object}
 use Rattle.name_sets.proofs.Shared.PlaceLaws.{name-none-later, name-placed}
 use Rattle.name_sets.specs.FirstPlaces.{place_from}
-use Rattle.ods_bodies.proofs.Shared.Items.{In, any-in, from-flat, from-map, from-taken, in-flat, in-map, in-taken, some-in}
-use Rattle.ods_rings.proofs.NamePlaces.{has-place, name-at, names-of, object-at}
+use Rattle.ods_bodies.proofs.Shared.Items.{In, any-in, from-flat, in-filter, in-flat, in-map, some-in}
+use Rattle.ods_rings.proofs.BodyEdges.{body-from, call-of, calls-in, edge-of, held-in}
+use Rattle.ods_rings.proofs.NamePlaces.{has-place, name-at, names-of, object-at, placed-parts}
 use Rattle.rings.proofs.Shared.NamedRings.{ring_of_names, ring_of_places}
 use Rattle.rings.specs.Graphs.{is_step}
 use Rattle.rings.specs.Reached.{Goes, IsFirstOnRing}
@@ -75,11 +75,8 @@ called x f t b k hf ht hb hk same =
     (and_from _ _ (ap (λ n. same_name n k.object) same ∙ same-self k.object) here)))
 
 module _ (x : Design) (place : Name → Option ℕ) (placed : (n : Name) → place n ≡ place_from 0 n (names-of (protected_objects x))) where
-  abbrev pub edges-of : List (ℕ × ℕ)
-  edges-of = flat_map (guard_edges place x) (protected_objects x)
-
   abbrev pub step-of : ℕ → ℕ → Bool
-  step-of = is_step (length (protected_objects x)) edges-of
+  step-of = is_step (length (protected_objects x)) (flat_map (guard_edges place) (design_calls x))
 
   stands-at : (n : Name) (p : ℕ) → place n ≡ Some p → slice_get (names-of (protected_objects x)) p ≡ Some n
   stands-at n p e =
@@ -94,37 +91,25 @@ module _ (x : Design) (place : Name → Option ℕ) (placed : (n : Name) → pla
       let d = between x a c h in
       let o = object-at (protected_objects x) q c (stands-at c q f) in
       let inside = slice_get_within (protected_objects x) q o.0 o.3 in
-      let at : place d.from.name ≡ Some p = ap place d.named ∙ e in
-      let target : In q (filter_map (λ k. place k.object) (meant_calls x d.from d.body.block)) =
-      in-taken (λ k. place k.object) d.call q (meant_calls x d.from d.body.block) d.written (ap place d.to ∙ f) in
-      let edge : In (p, q) (meant_edges place x d.from.needs p (block_calls d.body.block)) = in-map (λ t. (p, t)) q
-      (filter_map (λ k. place k.object) (meant_calls x d.from d.body.block)) target in
-      let P : Option ℕ → Type 0 = λ o. In (p, q) (edges_at place x d.from o) in
-      let own : In (p, q) (guard_edges place x d.from) =
-      subst P (sym at) (in-flat (λ b. meant_edges place x d.from.needs p (block_calls b.block)) d.body (p, q) d.from.bodies d.held edge) in
+      let own = held-in x d.from d.body d.stands d.held in
       and_from _ _ (grind (arith, inside))
-      (any-in (λ e. e.0 == p && e.1 == q) (p, q) edges-of (in-flat (guard_edges place x) d.from (p, q) (protected_objects x) d.stands own)
-      (and_from _ _ (eq-eqb p p refl) (eq-eqb q q refl)))
+      (edge-of (guard_place place) (λ k. place k.object) (design_calls x) (calls-in x d.from d.body) d.call p q own.0
+      (ap (λ b. if b then place d.from.name else None) own.1 ∙ ap place d.named ∙ e) d.written (ap place d.to ∙ f))
 
   -- an edge is a call between objects with these places
   step-back : (p q : ℕ) → step-of p q ≡ true → (a c : Name) × (place a ≡ Some p) × (place c ≡ Some q) × CallsObject x a c
   step-back p q h =
-      let e = some-in (λ e. e.0 == p && e.1 == q) edges-of (and_parts (nat_lt q (length (protected_objects x))) _ h).1 in
-      let ends = and_parts (e.0.0 == p) (e.0.1 == q) e.2 in
-      let f = from-flat (guard_edges place x) e.0 (protected_objects x) e.1 in
-      by f.0 f.1 e.0 (eqb-true e.0.0 p ends.0) (eqb-true e.0.1 q ends.1) (place f.0.name) refl f.2
-    where
-      by : (f : Object) → In f (protected_objects x) → (e : ℕ × ℕ) → e.0 ≡ p → e.1 ≡ q → (o : Option ℕ) → place f.name ≡ o
-          → In e (edges_at place x f o)
-          → (a c : Name) × (place a ≡ Some p) × (place c ≡ Some q) × CallsObject x a c
-      by f h e first second None at i = absurd i
-      by f h e first second (Some from) at i =
-          let b = from-flat (λ b. meant_edges place x f.needs from (block_calls b.block)) e f.bodies i in
-          let t = from-map (λ t. (from, t)) e (filter_map (λ k. place k.object) (meant_calls x f b.0.block)) b.2 in
-          let k = from-taken (λ k. place k.object) t.0 (meant_calls x f b.0.block) t.1 in
-          let there : place k.0.object ≡ Some q = k.2 ∙ ap Some (ap (λ z. z.1) t.2 ∙ second) in
-          let o = object-at (protected_objects x) q k.0.object (stands-at k.0.object q there) in
-          (f.name, k.0.object, at ∙ ap Some (ap (λ z. z.0) t.2 ∙ first), there, called x f o.0 b.0 k.0 h o.1 b.1 k.1 o.2)
+      let e = call-of (guard_place place) (λ k. place k.object) (design_calls x) p q
+      (and_parts (nat_lt q (length (protected_objects x))) _ h).1 in
+      let s = body-from x e.0 e.1 in
+      let own = s.0.own in
+      let at = placed-parts (is_protected own.kind) (place own.name) p (ap (guard_place place) s.2.2 ∙ e.2) in
+      let guard : In own (protected_objects x) =
+      in-map (λ (t : Standing). t.own) s.0 (filter (λ (t : Standing). is_protected t.own.kind) (terminals x))
+      (in-filter (λ (t : Standing). is_protected t.own.kind) s.0 (terminals x) s.1 at.0) in
+      let P : Calls → Type 0 = λ b. In e.3.0 b.meant in
+      let o = object-at (protected_objects x) q e.3.0.object (stands-at e.3.0.object q e.3.2) in
+      (own.name, e.3.0.object, at.1, e.3.2, called x own o.0 s.2.0 e.3.0 guard o.1 s.2.1 (subst P (sym s.2.2) e.3.1) o.2)
 
   -- every object that calls has a place
   source-placed : (a c : Name) → CallsObject x a c → (p : ℕ) × (place a ≡ Some p)
@@ -160,7 +145,3 @@ module _ (x : Design) (place : Name → Option ℕ) (placed : (n : Name) → pla
           none_earlier = λ i other below bad. let f = ringed i other bad in let y = f.1 in earlier f.0 (omega (arith, y, below)) f.2;
         },
       )
-
--- the number of the objects as the code has them
-pub count-same : (nodes : List (Bor Node)) (os : List Object) (n : ℕ) → n ≡ length nodes → map node_object nodes ≡ os → n ≡ length os
-count-same nodes os n len same = len ∙ sym (length-map nodes node_object) ∙ ap (λ z. length z) same

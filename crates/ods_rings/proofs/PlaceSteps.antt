@@ -1,5 +1,5 @@
 -- A step of a loop that gathers edges to the places of items.
-use Rattle.std.proofs.Common.{◌≡◌, Bool, true, false, cond, List, [], ◌∷◌, ◌++◌, map, filter, Option, Some, None, refl}
+use Rattle.std.proofs.Common.{◌≡◌, List, [], ◌∷◌, ◌++◌, map, Option, Some, None, refl}
 use Rattle.std.specs.Prelude.{filter_map}
 use Rattle.std.specs.List.{cons_option}
 
@@ -10,13 +10,3 @@ placed_one {B} {C} {D} pair place x ys = by (place x) (filter_map place ys)
     by : (o : Option D) (ds : List D) → map pair (cons_option o ds) ≡ map pair (cons_option o []) ++ map pair ds
     by None ds = refl
     by (Some d) ds = refl
-
-pub placed_first : {A B C D : Type 0} (pair : D → C) (place : B → Option D) (f : A → B) (p : A → Bool) (x : A) (ys : List A)
-    → map pair (filter_map place (map f (filter p (x ∷ ys)))) ≡ map pair (filter_map place (map f (filter p (x ∷ []))))
-    ++ map pair (filter_map place (map f (filter p ys)))
-placed_first {A} pair place f p x ys = by (p x)
-  where
-    by : (b : Bool) → map pair (filter_map place (map f (cond b (x ∷ filter p ys) (filter p ys))))
-        ≡ map pair (filter_map place (map f (cond b (x ∷ []) []))) ++ map pair (filter_map place (map f (filter p ys)))
-    by true = placed_one pair place (f x) (map f (filter p ys))
-    by false = refl

@@ -16,10 +16,11 @@ use Rattle.ods_rings.specs.Ranked.{sinks, sinks_at, named_caller}
 use Rattle.ods_tree.specs.Designs.{Design, Object}
 use Rattle.design_rules.specs.Lookups.{is_sporadic}
 use Rattle.design_rules.specs.Rings.{IsOnStartRing, StartsThread, calls_within, inner_calls, meant_calls, terminal_ops, thread_objects}
-use Rattle.ods_bodies.specs.Held.{HeldBody, held_bodies, held_calls}
+use Rattle.ods_index.specs.Calling.{Calls}
+use Rattle.ods_bodies.specs.Held.{held_bodies}
 use Rattle.ods_bodies.specs.Keys.{held_caller, key, keys_in, target_key, thread_keys, has_target, is_target}
 use Rattle.ods_bodies.proofs.Shared.Items.{In, any-in, from-flat, in-flat, in-map}
-use Rattle.ods_bodies.proofs.Shared.CalledLaws.{inner-body, key-listed, none-in}
+use Rattle.ods_bodies.proofs.Shared.CalledLaws.{held-meant, inner-body, key-listed, none-in}
 use Rattle.ods_rings.proofs.StartRings.{started}
 
 higher : (a b : ℕ) → not (nat_lt a b) ≡ false → a < b
@@ -35,12 +36,14 @@ module _ (x : Design) (t : Places) (rank : OpName → ℕ) (bodies : list_any (s
   abbrev named : Name → ℕ
   named n = rank (target_key n)
 
-  body-rises : (h : HeldBody) → In h (held_bodies x) → (k : OpName) → In k (held_calls x h) → own h.name < own k
+  body-rises : (h : Calls) → In h (held_bodies x) → (k : OpName) → In k h.meant → own h.name < own k
   body-rises h at k calls =
       let body = none-in (sinks rank) (map (held_caller t x) (held_bodies x)) bodies (held_caller t x h)
       (in-map (held_caller t x) h (held_bodies x) at) in
+      let P : List OpName → Type 0 = λ ks. In k ks in
       higher (own h.name) (own k)
-      (none-in (sinks_at rank (Some (key t h.name))) (keys_in t x h.needs h.block) body (key t k) (key-listed t x h.needs h.block k calls))
+      (none-in (sinks_at rank (Some (key t h.name))) (keys_in t x h.needs h.block) body (key t k)
+      (key-listed t x h.needs h.block k (subst P (held-meant x h at) calls)))
 
   inner-rises : (n k : OpName) → In k (inner_calls x n) → own n < own k
   inner-rises n k at =

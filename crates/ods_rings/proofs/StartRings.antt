@@ -1,5 +1,5 @@
 -- Rings of starts between threads are rings between their places.
-use Rattle.std.proofs.Common.{◌≡◌, ℕ, ◌≤◌, Bool, true, false, ◌&&◌, List, map, filter, length, slice_get, nat_lt, Option, Some, None, Bor, refl, sym}
+use Rattle.std.proofs.Common.{◌≡◌, ℕ, ◌≤◌, Bool, true, ◌&&◌, List, map, filter, length, slice_get, nat_lt, Option, Some, None, Bor, refl, sym}
 use Rattle.std.proofs.Common.{ap, subst, ◌∙◌, arith}
 use Rattle.std.specs.Prelude.{if◌then◌else◌, is_some}
 use Rattle.std.specs.List.{list_any}
@@ -26,7 +26,7 @@ use Rattle.name_sets.proofs.Shared.PlaceLaws.{name-none-later, name-placed}
 use Rattle.name_sets.specs.FirstPlaces.{place_from}
 use Rattle.ods_rings.specs.declared.start_rings.ThreadPlaces.{ThreadPlaces}
 use Rattle.ods_bodies.proofs.Shared.Items.{In, any-in, some-in}
-use Rattle.ods_rings.proofs.NamePlaces.{has-place, name-at, names-of, names-same, object-at}
+use Rattle.ods_rings.proofs.NamePlaces.{has-place, name-at, names-of, names-same, object-at, placed-parts}
 use Rattle.rings.proofs.Shared.NamedRings.{ring_of_names, ring_of_places}
 use Rattle.rings.specs.Graphs.{is_step}
 use Rattle.rings.specs.Reached.{Goes, IsFirstOnRing}
@@ -88,11 +88,6 @@ is-place (Some q) p h = ap Some (eqb-true q p h)
 place-is : (o : Option ℕ) (p : ℕ) → o ≡ Some p → is_at o p ≡ true
 place-is o p e = ap (λ z. is_at z p) e ∙ eq-eqb p p refl
 
--- where a name has a target, a sporadic object has it
-target-parts : (b : Bool) (o : Option ℕ) (q : ℕ) → (if b then o else None) ≡ Some q → (b ≡ true) × (o ≡ Some q)
-target-parts true o q e = (refl, e)
-target-parts false o q e = absurd (cc)
-
 -- places of threads by their names, and edges between so many
 pub record IsGraph (x : Design) (place target : Name → Option ℕ) (count : ℕ) (es : List (ℕ × ℕ)) : Type 0 where
   pub placed : (n : Name) → place n ≡ place_from 0 n (names-of (thread_objects x))
@@ -135,7 +130,7 @@ module _ (x : Design) (place target : Name → Option ℕ) (count : ℕ) (es : L
       let f = some-in (starts_at place target x p q) (thread_objects x) (sym (graph.made p q) ∙ e.1) in
       let g = and_parts (is_at (place f.0.name) p) (list_any (λ k. is_at (target k.object) q) (thread_calls x f.0)) f.2 in
       let k = some-in (λ k. is_at (target k.object) q) (thread_calls x f.0) g.1 in
-      let r = target-parts (has_target (thread_objects x) k.0.object) (place k.0.object) q
+      let r = placed-parts (has_target (thread_objects x) k.0.object) (place k.0.object) q
       (sym (graph.aimed k.0.object) ∙ is-place (target k.0.object) q k.2) in
       let t = some-in (is_target k.0.object) (thread_objects x) r.0 in
       let u = and_parts (is_sporadic t.0.kind) (same_name t.0.name k.0.object) t.2 in

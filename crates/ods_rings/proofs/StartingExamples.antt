@@ -8,7 +8,7 @@ use Rattle.name_sets.specs.Places.{place_in}
 use Rattle.ods_tree.specs.Designs.{Design, Empty, Node, Object}
 use Rattle.ods_tree.specs.declared.design.Kind.{Kind}
 use Rattle.ods_tree.specs.declared.design.Kind.TheVariants.{Cyclic}
-use Rattle.ods_rings.specs.Starting.{has_edge, is_at, start_edges, starts_at, target_in}
+use Rattle.ods_rings.specs.Starting.{has_edge, is_at, starts_at, target_in}
 use Rattle.ods_rings.specs.declared.start_rings.ThreadPlaces.{ThreadPlaces}
 
 abbrev set : OpName
@@ -42,12 +42,6 @@ target_with_place t n sporadic at = ap (λ o. if is_some o then place_in t.place
 
 target_without_place : (t : ThreadPlaces) (n : Name) → place_in t.sporadic n ≡ None → target_in t n ≡ None
 target_without_place t n none = ap (λ o. if is_some o then place_in t.places n else None) none
-
-edge_to_a_target : start_edges (λ n. Some 1) 0 (set ∷ []) ≡ (0, 1) ∷ []
-edge_to_a_target = refl
-
-no_edge_without_target : start_edges (λ n. None) 0 (set ∷ []) ≡ []
-no_edge_without_target = refl
 
 edge : has_edge ((0, 1) ∷ []) 0 1 ≡ true
 edge = refl

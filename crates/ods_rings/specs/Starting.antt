@@ -1,9 +1,8 @@
 -- The graph of starts between threads, by their places: an edge to each sporadic thread of which a thread calls an operation, itself or
 -- through protected operations. Places count from 0 in flattened order; of threads of one name the first counts.
-use Rattle.std.specs.Prelude.{ℕ, ◌==◌, Bool, false, ◌&&◌, List, map, filter_map, Option, Some, None, if◌then◌else◌, is_some}
+use Rattle.std.specs.Prelude.{ℕ, ◌==◌, Bool, false, ◌&&◌, List, Option, Some, None, if◌then◌else◌, is_some}
 use Rattle.std.specs.List.{list_any}
 use Rattle.seq_tree.specs.Names.{Name}
-use Rattle.seq_tree.specs.declared.tree.OpName.{OpName}
 use Rattle.name_sets.specs.Places.{place_in}
 use Rattle.ods_tree.specs.Designs.{Object, Design}
 use Rattle.design_rules.specs.Rings.{thread_calls}
@@ -12,10 +11,6 @@ use Rattle.ods_rings.specs.declared.start_rings.ThreadPlaces.{ThreadPlaces}
 -- the place that is kept for a name, where a sporadic thread has it
 abbrev pub target_in : ThreadPlaces → Name → Option ℕ
 target_in t n = if is_some (place_in t.sporadic n) then place_in t.places n else None
-
--- the edges from a place to those of the objects of these operations
-abbrev pub start_edges : (Name → Option ℕ) → ℕ → List OpName → List (ℕ × ℕ)
-start_edges target from ops = map (λ t. (from, t)) (filter_map (λ c. target c.object) ops)
 
 -- whether one of these edges leads from one place to another
 abbrev pub has_edge : List (ℕ × ℕ) → ℕ → ℕ → Bool

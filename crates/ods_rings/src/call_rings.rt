@@ -8,8 +8,8 @@ ghost use Rattle.ods_index.specs.Linked.{op_of};
 ghost use Rattle.ods_rings.specs.Graphed.{calls_step};
 ghost use Rattle.rings.specs.Reached.{IsFirstOnRing};
 
-use crate::call_edges::edges_of;
-use ods_index::{Broken, Index, Links, OpView, op_places, ops_of};
+use crate::edges::edges_of;
+use ods_index::{Broken, Index, OpView, op_places, ops_of};
 use rings::first_on_ring;
 use seq_tree::{NoMemory, OpName};
 use std::alloc::Global;
@@ -37,9 +37,8 @@ fn first_ringed<'a>(
     requires { IsIndex index.now }
     ensures { IfOk result (IsFirstOnRing (calls_step (design_of index.entry.now.design.now) (map op_of ops.entry.now))) }
 {
-    let links = Links::new(alloc, index.design)?;
     let places = op_places(alloc, ops)?;
-    let edges = edges_of(alloc, &links, &places, index.objects.as_slice())?;
+    let edges = edges_of(alloc, &places, index.calls.as_slice())?;
     first_on_ring(alloc, ops.len(), edges.as_slice())
 }
 

@@ -3,16 +3,16 @@ ghost use Rattle.seq_tree.specs.Names.{Name as NameTree};
 ghost use Rattle.call_graph.specs.Once.{caller_of};
 ghost use Rattle.ods_tree.specs.Trees.{design_of};
 ghost use Rattle.design_rules.specs.Rings.{IsOnStartRing, thread_objects};
+ghost use Rattle.ods_index.specs.Calling.{calls_of, design_calls};
 ghost use Rattle.ods_index.specs.Nodes.{node_object};
 ghost use Rattle.ods_index.specs.Walking.{object_of};
-ghost use Rattle.ods_bodies.specs.Held.{held_bodies, held_of};
 ghost use Rattle.ods_rings.specs.Ranked.{named_caller};
 
 use crate::ranks::ranks_of;
 use call_graph::Caller;
 use name_sets::Places;
-use ods_bodies::{ProtectedBody, add_callers, targets_of, thread_keys};
-use ods_index::Links;
+use ods_bodies::{add_callers, targets_of, thread_keys};
+use ods_index::{Links, OpCalls};
 use ods_tree::Node;
 use seq_cost::Call;
 use seq_tree::NoMemory;
@@ -64,16 +64,16 @@ fn add_threads<'a>(
 pub(crate) fn shows_none<'a>(
     alloc: Global,
     links: &Links<'a>,
-    bodies: &[ProtectedBody<'a>],
+    calls: &[OpCalls<'a>],
     threads: &[&'a Node],
 ) -> Result<bool, NoMemory>
-    requires held { map held_of bodies.now ≡ held_bodies (design_of links.now.design.now) }
+    requires called { map calls_of calls.now ≡ design_calls (design_of links.now.design.now) }
     requires threads { map node_object threads.now ≡ thread_objects (design_of links.now.design.now) }
     ensures { IfOk result (λ b. b ≡ true → (a : NameTree) → IsOnStartRing (design_of links.now.design.now) a → ⊥) }
 {
     let targets = targets_of(alloc, threads)?;
     let mut callers = Vec::new(alloc);
-    add_callers(alloc, &targets, links, bodies, &mut callers)?;
+    add_callers(alloc, &targets, links, calls, &mut callers)?;
     add_threads(alloc, &targets, links, threads, &mut callers)?;
     let ranks = ranks_of(alloc, callers.as_slice())?;
     Ok(ranks.is_some())

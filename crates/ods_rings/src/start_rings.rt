@@ -1,4 +1,4 @@
-ghost use Rattle.std.specs.Prelude.{◌≡◌, ◌∷◌, ◌++◌, ◌||◌, [], ℕ, true, IfOk, OnOk, map, option_map, slice_get, is_some};
+ghost use Rattle.std.specs.Prelude.{◌≡◌, ◌||◌, ℕ, true, IfOk, OnOk, map, option_map, slice_get, is_some};
 ghost use Rattle.std.specs.List.{list_any};
 ghost use Rattle.seq_tree.specs.Names.{Name as NameTree};
 ghost use Rattle.name_sets.specs.Places.{place_in};
@@ -8,17 +8,18 @@ ghost use Rattle.design_rules.specs.Rings.{IsOnStartRing};
 ghost use Rattle.design_rules.specs.Rules.{RingedThread};
 ghost use Rattle.ods_index.specs.Indexing.{IsIndex};
 ghost use Rattle.ods_index.specs.Judging.{Judges, Tells};
-ghost use Rattle.ods_index.specs.Linked.{op_of};
 ghost use Rattle.ods_index.specs.Nodes.{node_name, node_object};
-ghost use Rattle.ods_rings.specs.Starting.{has_edge, start_edges, starts_at, target_in};
+ghost use Rattle.ods_rings.specs.Starting.{has_edge, starts_at, target_in};
 ghost use Rattle.ods_bodies.specs.Keys.{has_target};
 ghost use Rattle.name_sets.specs.FirstPlaces.{place_from};
 ghost use Rattle.ods_index.specs.Walking.{object_of};
 
+use crate::edges::add_edges;
 use crate::rising;
+use call_graph::CallPlaces;
 use name_sets::Places;
-use ods_bodies::{any_sporadic, bodies_of, targets_of};
-use ods_index::{Broken, Index, Links, OpView, places_of};
+use ods_bodies::{any_sporadic, targets_of};
+use ods_index::{Broken, Index, places_of};
 use ods_starts::{Starts, threads_of};
 use ods_tree::Node;
 use rings::first_on_ring;
@@ -42,69 +43,41 @@ impl<'a> ThreadPlaces<'a> {
         let sporadic = targets_of(alloc, threads)?;
         Ok(ThreadPlaces { places, sporadic })
     }
+}
 
-    /// The place of a name, where a sporadic thread has it.
-    fn target(&self, name: &Name) -> Option<usize>
-        ensures { result ≡ target_in self.now name.now }
+/// Where starts lead: to the places of sporadic threads, by the names of their objects.
+impl CallPlaces for ThreadPlaces<'_> {
+    ghost places = { λ t k. target_in t k.object };
+
+    fn place(&self, object: &Name, _op: &Name) -> Option<usize>
+        ensures { result ≡ target_in self.now object.now }
     {
-        match self.sporadic.get(name) {
+        match self.sporadic.get(object) {
             None => None,
-            Some(_) => self.places.get(name),
+            Some(_) => self.places.get(object),
         }
     }
-}
-
-/// Adds the edge to the object of an operation, where its thread is sporadic.
-fn add_start<'a>(
-    places: &ThreadPlaces<'a>,
-    from: usize,
-    op: &OpView<'a>,
-    edges: &mut Vec<(usize, usize)>,
-) -> Result<(), NoMemory>
-    ensures { OnOk result (edges.new.items ≡ edges.old.items ++ start_edges (target_in places.now) from (op_of op.entry.now ∷ [])) }
-{
-    match places.target(op.object) {
-        None => Ok(()),
-        Some(to) => {
-            edges.push((from, to))?;
-            Ok(())
-        }
-    }
-}
-
-/// Adds the edges to the objects of operations.
-fn add_starts<'a>(
-    places: &ThreadPlaces<'a>,
-    from: usize,
-    ops: &[OpView<'a>],
-    edges: &mut Vec<(usize, usize)>,
-) -> Result<(), NoMemory>
-    ensures { OnOk result (edges.new.items ≡ edges.old.items ++ start_edges (target_in places.now) from (map op_of ops.entry.now)) }
-{
-    'ops: for op in ops {
-        add_start(places, from, op, edges)?;
-    }
-    Ok(())
 }
 
 /// Adds the edges of a thread, where it has a place.
 #[tactic(auto, using(ods_index::proofs::Shared::WalkSteps::node_steps))]
 fn add_thread<'a>(
     alloc: Global,
-    starts: &Starts<'a>,
+    starts: &Starts<'_, 'a>,
     places: &ThreadPlaces<'a>,
     node: &'a Node,
     edges: &mut Vec<(usize, usize)>,
 ) -> Result<(), NoMemory>
     ensures { OnOk result ((p q : ℕ) → has_edge edges.new.items p q
         ≡ (has_edge edges.old.items p q
-        || starts_at (place_in places.now.places) (target_in places.now) (design_of starts.now.links.design.now) p q (object_of node.entry.now))) }
+        || starts_at (place_in places.now.places) (target_in places.now) (design_of starts.now.links.now.design.now) p q
+        (object_of node.entry.now))) }
 {
     match places.places.get(&node.name) {
         None => Ok(()),
         Some(from) => {
             let ops = starts.calls(alloc, node)?;
-            add_starts(places, from, ops.as_slice(), edges)?;
+            add_edges(places, from, ops.as_slice(), edges)?;
             Ok(())
         }
     }
@@ -114,12 +87,12 @@ fn add_thread<'a>(
 /// protected ones.
 fn edges_of<'a>(
     alloc: Global,
-    starts: &Starts<'a>,
+    starts: &Starts<'_, 'a>,
     places: &ThreadPlaces<'a>,
     threads: &[&'a Node],
 ) -> Result<Vec<(usize, usize)>, NoMemory>
     ensures { IfOk result (λ v. (p q : ℕ) → has_edge v.items p q
-        ≡ list_any (starts_at (place_in places.now.places) (target_in places.now) (design_of starts.now.links.design.now) p q)
+        ≡ list_any (starts_at (place_in places.now.places) (target_in places.now) (design_of starts.now.links.now.design.now) p q)
         (map node_object threads.entry.now)) }
 {
     let mut edges = Vec::new(alloc);
@@ -150,9 +123,12 @@ fn shows_none(alloc: Global, index: &Index<'_>) -> Result<bool, NoMemory>
     if !any_sporadic(threads.as_slice()) {
         return Ok(true);
     }
-    let links = Links::new(alloc, index.design)?;
-    let bodies = bodies_of(alloc, index.objects.as_slice())?;
-    rising::shows_none(alloc, &links, bodies.as_slice(), threads.as_slice())
+    rising::shows_none(
+        alloc,
+        &index.links,
+        index.calls.as_slice(),
+        threads.as_slice(),
+    )
 }
 
 /// Tells the first thread on a ring of starts, by all that each thread reaches.

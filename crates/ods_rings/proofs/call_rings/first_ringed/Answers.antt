@@ -1,13 +1,12 @@
-use Rattle.std.proofs.Common.{◌≡◌, IfOk, ap, subst, ◌∙◌, map, flat_map, length, refl}
+use Rattle.std.proofs.Common.{◌≡◌, IfOk, ap, subst, ◌∙◌, map, flat_map, length, sym}
 use Rattle.std.proofs.Math.Path.{fun_ext}
+use Rattle.std.proofs.lemmas.List.{length-map}
 use Rattle.name_sets.specs.Tables.{at}
 use Rattle.ods_tree.specs.Trees.{design_of}
-use Rattle.ods_tree.specs.Walk.{objects, terminals}
-use Rattle.ods_rings.specs.Graphed.{object_edges}
+use Rattle.ods_rings.specs.Graphed.{body_edges}
 use Rattle.name_sets.specs.FirstPlaces.{op_place_from}
+use Rattle.ods_index.specs.Calling.{calls_of, design_calls}
 use Rattle.ods_index.specs.Linked.{op_of}
-use Rattle.ods_index.specs.Walking.{standing_of}
-use Rattle.ods_rings.proofs.CallRings.{edges-same, count-same}
 use Rattle.ods_rings.proofs.call_rings.first_ringed.Goals as goal
 use Rattle.rings.specs.Graphs.{is_step}
 use Rattle.rings.specs.Reached.{IsFirstOnRing}
@@ -16,13 +15,13 @@ pub returns : goal.returns
 returns c =
     let x = design_of c.args.index.now.design.now in
     let ops = map op_of c.args.ops.now in
-    let seen : map standing_of c.as_slice.result.now ≡ objects x = ap (map standing_of) c.as_slice.ensures.value ∙ c.requires.walked in
-    let placed : at c.in_ok-places.places ≡ op_place_from 0 ops = fun_ext c.in_ok-places.ensures in
-    let edges : c.as_slice-2.result.now ≡ flat_map (object_edges (op_place_from 0 ops) x) (terminals x) =
-    c.as_slice-2.ensures.value
-    ∙ edges-same x (design_of c.in_ok-links.links.design.now) (at c.in_ok-places.places) c.in_ok-edges.edges.items
-    (map standing_of c.as_slice.result.now) c.in_ok-edges.ensures (ap design_of c.in_ok-links.ensures) seen
-    ∙ ap (λ place. flat_map (object_edges place x) (terminals x)) placed in
-    let count : length c.args.ops.now ≡ length ops = count-same c.args.ops.now ops (length c.args.ops.now) refl refl in
-    subst (λ n. IfOk c.first_on_ring.result (IsFirstOnRing (is_step n (flat_map (object_edges (op_place_from 0 ops) x) (terminals x))))) count
+    let places = at c.in_ok-places.places in
+    let placed : places ≡ op_place_from 0 ops = fun_ext c.in_ok-places.ensures in
+    let edges : c.as_slice-2.result.now ≡ flat_map (body_edges (λ b. op_place_from 0 ops b.name) (op_place_from 0 ops)) (design_calls x) =
+    c.as_slice-2.ensures.value ∙ c.in_ok-edges.ensures
+    ∙ ap (flat_map (body_edges (λ b. places b.name) places)) (ap (map calls_of) c.as_slice.ensures.value ∙ c.requires.called)
+    ∙ ap (λ place. flat_map (body_edges (λ b. place b.name) place) (design_calls x)) placed in
+    let count : length c.args.ops.now ≡ length ops = sym (length-map c.args.ops.now op_of) in
+    subst (λ n. IfOk c.first_on_ring.result
+    (IsFirstOnRing (is_step n (flat_map (body_edges (λ b. op_place_from 0 ops b.name) (op_place_from 0 ops)) (design_calls x))))) count
     (subst (λ es. IfOk c.first_on_ring.result (IsFirstOnRing (is_step (length c.args.ops.now) es))) edges c.first_on_ring.ensures)

@@ -9,7 +9,8 @@ use Rattle.name_sets.specs.FirstPlaces.{op_place_from}
 use Rattle.ods_index.specs.Judging.{Passes}
 use Rattle.ods_index.specs.Linked.{op_of}
 use Rattle.ods_index.specs.Walking.{standing_of}
-use Rattle.ods_rings.proofs.CallRings.{none-ringed, first-ringed, tells-first, ops-same, tell-same, told-by}
+use Rattle.ods_rings.proofs.CallRings.{none-ringed, first-ringed, tells-first, ops-same, told-by}
+use Rattle.ods_rings.proofs.NamePlaces.{tell-same}
 use Rattle.ods_rings.proofs.call_rings.first_ringed_op.Goals as goal
 use Rattle.rings.specs.Reached.{IsFirstOnRing}
 
@@ -38,6 +39,6 @@ returns c =
     (subst (λ first. IsFirstOnRing (calls_step x (map op_of c.as_slice-2.result.now)) first) c.in-Some.is c.in_ok-first_ringed.ensures)) in
     tells-first (RingedOp x) c.tell_op.result (V09Calls f.0)
     (told-by c.tell_op.result _ (V09Calls f.0) c.tell_op.ensures
-    (tell-same c.as_slice-in-Some.result.now place f.0
+    (tell-same op_of V09Calls c.as_slice-in-Some.result.now place f.0
     (ap (λ vs. slice_get vs place) (ap (map op_of) c.as_slice-in-Some.ensures.value ∙ views) ∙ f.1)))
     f.2

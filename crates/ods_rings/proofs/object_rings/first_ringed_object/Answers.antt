@@ -36,6 +36,6 @@ returns c =
     (subst (λ first. IsFirstOnRing (guards_step x (map node_object c.as_slice-2.result.now)) first) c.in-Some.is c.in_ok-first_ringed.ensures)) in
     tells-first (RingedObject x) c.tell_object.result (V09Objects f.0.name)
     (told-by c.tell_object.result _ (V09Objects f.0.name) c.tell_object.ensures
-    (tell-same V09Objects c.as_slice-in-Some.result.now place f.0
+    (tell-same node_object (λ o. V09Objects o.name) c.as_slice-in-Some.result.now place f.0
     (ap (λ vs. slice_get vs place) (ap (map node_object) c.as_slice-in-Some.ensures.value ∙ guards) ∙ f.1)))
     f.2

@@ -11,17 +11,17 @@ use Rattle.ods_rings.proofs.StartSteps.{edges-more}
 use Rattle.ods_index.proofs.Shared.WalkSteps.{own_fields}
 use Rattle.ods_rings.proofs.start_rings.add_thread.Goals as goal
 
-pub returns-in_ok-add_starts-in-Some : goal.returns-in_ok-add_starts-in-Some
-returns-in_ok-add_starts-in-Some c = λ p q.
+pub returns-in_ok-add_edges-in-Some : goal.returns-in_ok-add_edges-in-Some
+returns-in_ok-add_edges-in-Some c = λ p q.
     let places = c.args.places.now in
     let own = object_of c.args.node.now in
-    let all = thread_calls (design_of c.args.starts.now.links.design.now) own in
+    let all = thread_calls (design_of c.args.starts.now.links.now.design.now) own in
     let old = c.args.edges.now.items in
     let calls : Bool = list_any (λ k. is_at (target_in places k.object) q) all in
     let at : Some c.in-Some.from ≡ place_in places.places own.name = c.in-Some.ensures
     ∙ ap (λ o. place_in places.places o.name) (sym (own_fields c.args.node.now)) in
     let same : (test : OpName → Bool) → list_any test (map op_of c.as_slice.result.now) ≡ list_any test all =
     λ test. ap (λ vs. list_any test (map op_of vs)) c.as_slice.ensures.value ∙ c.in_ok-ops-in-Some.ensures test in
-    edges-more (target_in places) c.in-Some.from p q old c.add_starts.new.edges.items
-    (map op_of c.as_slice.result.now) all c.in_ok-add_starts-in-Some.ensures same
+    edges-more (target_in places) c.in-Some.from p q old c.add_edges.new.edges.items
+    (map op_of c.as_slice.result.now) all c.in_ok-add_edges-in-Some.ensures same
     ∙ ap (λ o. has_edge old p q || (is_at o p && calls)) at

@@ -11,7 +11,7 @@ use Rattle.ods_rings.proofs.start_rings.edges_of.Goals as goal
 
 pub threads-preserved : goal.threads-preserved
 threads-preserved c = λ p q.
-    let test = starts_at (place_in c.args.places.now.places) (target_in c.args.places.now) (design_of c.args.starts.now.links.design.now) p q in
+    let test = starts_at (place_in c.args.places.now.places) (target_in c.args.places.now) (design_of c.args.starts.now.links.now.design.now) p q in
     let later = list_any test (map node_object (drop (c.threads.node-index + 1) c.args.threads.now)) in
     let before = has_edge c.threads.edges.items p q in
     let step : drop c.threads.node-index c.args.threads.now ≡ c.node-item.result ∷ drop (c.threads.node-index + 1) c.args.threads.now =

@@ -10,6 +10,6 @@ use Rattle.ods_rings.proofs.start_rings.edges_of.Given as goal
 abbrev pub invariant-threads : goal.invariant-threads
 invariant-threads l =
     (p q : ℕ) → (has_edge l.edges.items p q
-    || list_any (starts_at (place_in l.places.places) (target_in l.places) (design_of l.starts.links.design.now) p q)
+    || list_any (starts_at (place_in l.places.places) (target_in l.places) (design_of l.starts.links.now.design.now) p q)
     (map node_object (drop l.node-index l.threads)))
-    ≡ list_any (starts_at (place_in l.places.places) (target_in l.places) (design_of l.starts.links.design.now) p q) (map node_object l.threads)
+    ≡ list_any (starts_at (place_in l.places.places) (target_in l.places) (design_of l.starts.links.now.design.now) p q) (map node_object l.threads)

@@ -18,7 +18,7 @@ returns-in-None c =
     let x = design_of c.args.index.now.design.now in
     let t = c.in_ok-places.places in
     let count : c.len.result ≡ length c.in_ok-threads.threads.items = omega (arith, c.len.ensures, c.in_ok-threads.threads.ok.0) in
-    let graph = graph-of x (design_of c.in_ok-starts.starts.links.design.now)
+    let graph = graph-of x (design_of c.in_ok-starts.starts.links.now.design.now)
     (map standing_of c.as_slice.result.now) c.in_ok-threads.threads.items c.as_slice-2.result.now c.as_slice-3.result.now t
     c.in_ok-edges.edges.items c.as_slice-4.result.now c.len.result (ap (map standing_of) c.as_slice.ensures.value ∙ c.requires.walked)
     (ap design_of c.in_ok-starts.ensures) c.in_ok-threads.ensures
@@ -34,7 +34,7 @@ returns c =
     let t = c.in_ok-places.places in
     let walked : map standing_of c.as_slice.result.now ≡ objects x = ap (map standing_of) c.as_slice.ensures.value ∙ c.requires.walked in
     let count : c.len.result ≡ length c.in_ok-threads.threads.items = omega (arith, c.len.ensures, c.in_ok-threads.threads.ok.0) in
-    let graph = graph-of x (design_of c.in_ok-starts.starts.links.design.now)
+    let graph = graph-of x (design_of c.in_ok-starts.starts.links.now.design.now)
     (map standing_of c.as_slice.result.now) c.in_ok-threads.threads.items c.as_slice-2.result.now c.as_slice-3.result.now t
     c.in_ok-edges.edges.items c.as_slice-4.result.now c.len.result walked (ap design_of c.in_ok-starts.ensures) c.in_ok-threads.ensures
     c.as_slice-2.ensures.value c.as_slice-3.ensures.value c.in_ok-places.ensures.places c.in_ok-places.ensures.sporadic c.in_ok-edges.ensures
@@ -47,5 +47,6 @@ returns c =
     ∙ whole-threads x (map standing_of c.as_slice.result.now) c.in_ok-threads.threads.items walked c.in_ok-threads.ensures in
     tells-first (RingedThread x) c.tell_thread.result (V09Starts f.0.name)
     (told-by c.tell_thread.result _ (V09Starts f.0.name) c.tell_thread.ensures
-    (tell-same V09Starts c.as_slice-in-Some.result.now c.in-Some.place f.0 (ap (λ vs. slice_get vs c.in-Some.place) threads ∙ f.1)))
+    (tell-same node_object (λ o. V09Starts o.name) c.as_slice-in-Some.result.now c.in-Some.place f.0
+    (ap (λ vs. slice_get vs c.in-Some.place) threads ∙ f.1)))
     f.2

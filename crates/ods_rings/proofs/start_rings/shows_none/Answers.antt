@@ -1,41 +1,35 @@
-use Rattle.std.proofs.Common.{rules, ◌≡◌, ◌∙◌, true, false, filter, flat_map, map, ap, sym, subst}
+use Rattle.std.proofs.Common.{rules, ◌≡◌, ◌∙◌, true, false, filter, map, ap, sym, subst}
 use Rattle.std.proofs.lemmas.Result.{IfOk-weaker}
 use Rattle.seq_tree.specs.Names.{Name}
-use Rattle.ods_tree.specs.Flattening.{is_protected}
 use Rattle.ods_tree.specs.Trees.{design_of}
 use Rattle.ods_tree.specs.Walk.{is_terminal, objects}
 use Rattle.ods_tree.specs.declared.design.Design as code
 use Rattle.design_rules.specs.Lookups.{has_thread}
 use Rattle.design_rules.specs.Rings.{IsOnStartRing, thread_objects}
+use Rattle.ods_index.specs.Calling.{calls_of, design_calls}
 use Rattle.ods_index.specs.Nodes.{node_object}
 use Rattle.ods_index.specs.Walking.{standing_of}
-use Rattle.ods_bodies.specs.Held.{held_in, held_of}
 use Rattle.ods_rings.proofs.RisingLaws.{never-ring}
 use Rattle.ods_rings.proofs.start_rings.shows_none.Goals as goal
 
-pub shows_none-requires-clause-held : goal.shows_none-requires-clause-held
-shows_none-requires-clause-held c =
-    let x = design_of c.in_ok-links.links.design.now in
-    let same : objects (design_of c.args.index.now.design.now) ≡ objects x = ap (λ (d : code.Design). objects (design_of d))
-    (sym c.in_ok-links.ensures) in
-    let walked : map standing_of c.as_slice-3.result.now ≡ objects x = ap (map standing_of) c.as_slice-3.ensures.value ∙ c.requires.walked ∙ same in
-    ap (map held_of) c.as_slice-4.ensures.value ∙ c.in_ok-bodies.ensures
-    ∙ ap (λ ss. flat_map (λ s. held_in s.own) (filter (λ s. is_protected s.own.kind) (filter is_terminal ss))) walked
+pub shows_none-requires-clause-called : goal.shows_none-requires-clause-called
+shows_none-requires-clause-called c =
+    ap (map calls_of) c.as_slice-3.ensures.value ∙ c.requires.called ∙ ap (λ (d : code.Design). design_calls (design_of d)) (sym c.requires.linked)
 
 pub shows_none-requires-clause-threads : goal.shows_none-requires-clause-threads
 shows_none-requires-clause-threads c =
-    let x = design_of c.in_ok-links.links.design.now in
+    let x = design_of c.args.index.now.links.design.now in
     let same : objects (design_of c.args.index.now.design.now) ≡ objects x = ap (λ (d : code.Design). objects (design_of d))
-    (sym c.in_ok-links.ensures) in
+    (sym c.requires.linked) in
     let walked : map standing_of c.as_slice.result.now ≡ objects x = ap (map standing_of) c.as_slice.ensures.value ∙ c.requires.walked ∙ same in
-    ap (map node_object) c.as_slice-5.ensures.value ∙ c.in_ok-threads.ensures
+    ap (map node_object) c.as_slice-4.ensures.value ∙ c.in_ok-threads.ensures
     ∙ ap (λ ss. map (λ s. s.own) (filter (λ s. has_thread s.own.kind) (filter is_terminal ss))) walked
 
 pub returns : goal.returns
 returns c =
-    IfOk-weaker c.shows_none.result (λ b. b ≡ true → (a : Name) → IsOnStartRing (design_of c.in_ok-links.links.design.now) a → ⊥)
+    IfOk-weaker c.shows_none.result (λ b. b ≡ true → (a : Name) → IsOnStartRing (design_of c.args.index.now.links.design.now) a → ⊥)
     (λ b. b ≡ true → (a : Name) → IsOnStartRing (design_of c.args.index.now.design.now) a → ⊥)
-    (λ b f shown a ring. f shown a (subst (λ (d : code.Design). IsOnStartRing (design_of d) a) (sym c.in_ok-links.ensures) ring))
+    (λ b f shown a ring. f shown a (subst (λ (d : code.Design). IsOnStartRing (design_of d) a) (sym c.requires.linked) ring))
     c.shows_none.ensures
 
 pub returns-then-not-any_sporadic : goal.returns-then-not-any_sporadic

@@ -11,7 +11,8 @@ use Rattle.seq_tree.specs.declared.tree.OpName.{OpName}
 use Rattle.seq_tree.proofs.Shared.Walks.{same_op-eq, same_op-refl, within}
 use Rattle.ods_tree.specs.Designs.{Design, Object}
 use Rattle.design_rules.specs.Rings.{calls_within, inner_calls}
-use Rattle.ods_bodies.specs.Held.{HeldBody, held_bodies, held_calls}
+use Rattle.ods_index.specs.Calling.{Calls}
+use Rattle.ods_bodies.specs.Held.{held_bodies}
 use Rattle.ods_sources.specs.Requesters.{HasCallers}
 use Rattle.ods_starts.specs.Spreading.{body_at, direct_calls, found_all, inner_at, spread}
 use Rattle.ods_sources.specs.Sourced.{leads_at, reaches_by}
@@ -70,15 +71,15 @@ turned f r back (suc depth) m n h = by (λ k. turned f r back depth m k) (last-s
 
 -- what makes calls that pass a test
 abbrev makers : Design → (OpName → Bool) → List OpName
-makers x p = flat_map (λ (h : HeldBody). flat_map (λ c. if p c then h.name ∷ [] else []) (held_calls x h)) (held_bodies x)
+makers x p = flat_map (λ (h : Calls). flat_map (λ c. if p c then h.name ∷ [] else []) h.meant) (held_bodies x)
 
 made-by : (x : Design) (p : OpName → Bool) (m : OpName) → In m (makers x p) → (c : OpName) × In c (inner_calls x m) × (p c ≡ true)
 made-by x p m at =
-    let h = from-flat (λ (h : HeldBody). flat_map (λ c. if p c then h.name ∷ [] else []) (held_calls x h)) m (held_bodies x) at in
-    let c = from-flat (λ (c : OpName). if p c then h.0.name ∷ [] else []) m (held_calls x h.0) h.2 in
+    let h = from-flat (λ (h : Calls). flat_map (λ c. if p c then h.name ∷ [] else []) h.meant) m (held_bodies x) at in
+    let c = from-flat (λ (c : OpName). if p c then h.0.name ∷ [] else []) m h.0.meant h.2 in
     by h.0 h.1 c.0 c.1 (p c.0) refl c.2
   where
-    by : (h : HeldBody) → In h (held_bodies x) → (c : OpName) → In c (held_calls x h) → (b : Bool) → p c ≡ b → In m (if b then h.name ∷ [] else [])
+    by : (h : Calls) → In h (held_bodies x) → (c : OpName) → In c h.meant → (b : Bool) → p c ≡ b → In m (if b then h.name ∷ [] else [])
         → (c : OpName) × In c (inner_calls x m) × (p c ≡ true)
     by h body c call true e (inl s) = let P : OpName → Type 0 = λ z. In c (inner_calls x z) in (c, subst P s (body-inner x h c body call), e)
     by h body c call true e (inr j) = absurd j
@@ -90,8 +91,8 @@ makes x p m c at e =
     let P : OpName → Type 0 = λ z. In z (makers x p) in
     let Q : Bool → Type 0 = λ b. In r.0.name (if b then r.0.name ∷ [] else []) in
     subst P r.2
-    (in-flat (λ (h : HeldBody). flat_map (λ c. if p c then h.name ∷ [] else []) (held_calls x h)) r.0 r.0.name (held_bodies x) r.1
-    (in-flat (λ (d : OpName). if p d then r.0.name ∷ [] else []) c r.0.name (held_calls x r.0) r.3 (subst Q (sym e) (inl refl))))
+    (in-flat (λ (h : Calls). flat_map (λ c. if p c then h.name ∷ [] else []) h.meant) r.0 r.0.name (held_bodies x) r.1
+    (in-flat (λ (d : OpName). if p d then r.0.name ∷ [] else []) c r.0.name r.0.meant r.3 (subst Q (sym e) (inl refl))))
 
 same-bool : (a b : Bool) → (a ≡ true → b ≡ true) → (b ≡ true → a ≡ true) → a ≡ b
 same-bool true b f g = sym (f refl)
@@ -121,7 +122,8 @@ module _ (x : Design) (t : Callers) (called : HasCallers x t) (target : Name) wh
   deep-calls : (depth : ℕ) (m : OpName) → within depth inner m ≡ calls_within depth x m
   deep-calls depth m = within-calls x inner (λ n. refl) depth m
 
-  found-forth : (depth : ℕ) (m : OpName) → (of_target m || list_any (λ c. same_op c m) (flat_map (within depth back) (body_at t.objects target))) ≡ true
+  found-forth : (depth : ℕ) (m : OpName)
+      → (of_target m || list_any (λ c. same_op c m) (flat_map (within depth back) (body_at t.objects target))) ≡ true
       → list_any of_target (calls_within (suc depth) x m) ≡ true
   found-forth depth m h = by (or_cases (of_target m) (list_any (λ c. same_op c m) (flat_map (within depth back) (body_at t.objects target))) h)
     where

@@ -24,14 +24,15 @@ use Rattle.ods_tree.specs.Designs.{Design, Object}
 use Rattle.ods_tree.specs.Links.{resolve}
 use Rattle.design_rules.specs.Rings.{calls_within, inner_calls, meant_calls, terminal_ops}
 use Rattle.design_rules.specs.Sources.{requests_by, starts_within}
-use Rattle.ods_bodies.specs.Held.{HeldBody, held_bodies}
+use Rattle.ods_index.specs.Calling.{Calls}
+use Rattle.ods_bodies.specs.Held.{held_bodies}
 use Rattle.ods_sources.specs.Requested.{block_count, call_weight, greatest_count, held_count, held_named}
 use Rattle.ods_bodies.specs.Keys.{held_caller, key, keys_in, target_key, thread_keys}
 use Rattle.ods_sources.specs.Singles.{has_way, is_once, threads_caller}
 use Rattle.ods_starts.specs.Spreading.{reaches}
 use Rattle.ods_sources.specs.declared.once.Once.{Once}
 use Rattle.ods_bodies.proofs.Shared.Items.{In, from-flat, in-flat, in-map, some-in}
-use Rattle.ods_bodies.proofs.Shared.CalledLaws.{inner-body, meant-listed, none-in}
+use Rattle.ods_bodies.proofs.Shared.CalledLaws.{held-meant, inner-body, meant-listed, none-in}
 use Rattle.ods_sources.proofs.RequestLaws.{deeper-count, fold-cons}
 use Rattle.ods_sources.proofs.SourceLaws.{any-flat}
 
@@ -158,7 +159,7 @@ module _ (x : Design) (t : Places) (depth : OpName → Option ℕ) (from : OpNam
         caller-led depth from (target_key target) deepest n (key t) (weigh inner) led (meant_in needs b) (fitting (Some n) needs b h)
         (some-more _ _ _ (block-less (Some n) needs b h) (sum-meant inner needs (block_listed false b)) more)
 
-    named-once : (m : OpName) (hs : List HeldBody) → list_any (misfits_at depth from) (map (held_caller t x) hs) ≡ false
+    named-once : (m : OpName) (hs : List Calls) → list_any (misfits_at depth from) (map (held_caller t x) hs) ≡ false
         → Once2 (greatest_count x target inner (flat_map (held_named m) hs)) (Leads (key t m))
     named-once m [] h = (omega arith, λ more. absurd (omega (arith, more)))
     named-once m (b ∷ hs) h = by (same_op b.name m) refl (named-once m hs parts.1)
@@ -166,7 +167,7 @@ module _ (x : Design) (t : Places) (depth : OpName → Option ℕ) (from : OpNam
         parts : (misfits_at depth from (held_caller t x b) ≡ false) × (list_any (misfits_at depth from) (map (held_caller t x) hs) ≡ false)
         parts = or_parts (misfits_at depth from (held_caller t x b)) (list_any (misfits_at depth from) (map (held_caller t x) hs)) h
 
-        rest : List HeldBody
+        rest : List Calls
         rest = flat_map (held_named m) hs
 
         by : (s : Bool) → same_op b.name m ≡ s → Once2 (greatest_count x target inner rest) (Leads (key t m))
@@ -283,12 +284,13 @@ module _ (x : Design) (t : Places) (depth : OpName → Option ℕ) (from : OpNam
             → Leads (key t m)
         caller led k at e =
             let r = inner-body x m k at in
+            let P : List OpName → Type 0 = λ l. In k l in
             let fit = none-in (misfits_at depth from) (map (held_caller t x) (held_bodies x)) bodies (held_caller t x r.0)
             (in-map (held_caller t x) r.0 (held_bodies x) r.1) in
             subst (λ (z : OpName). Leads (key t z)) r.2
             (caller-led depth from (target_key target) deepest (key t r.0.name) (key t) (reach level)
             (λ n more. (one-reach level n (led n)).1 more) (meant_in r.0.needs r.0.block) (fitting (Some (key t r.0.name)) r.0.needs r.0.block fit)
-            (some-reach level (meant_in r.0.needs r.0.block) k (meant-listed x r.0.needs r.0.block k r.3) e))
+            (some-reach level (meant_in r.0.needs r.0.block) k (meant-listed x r.0.needs r.0.block k (subst P (held-meant x r.0 r.1) r.3)) e))
 
         by : ((k : OpName) → reaching level k ≡ true → Leads (key t k)) → (same_name m.object target ≡ true)
             ⊎ (list_any (λ c. same_name c.object target) (flat_map (calls_within level x) (inner_calls x m)) ≡ true) → Leads (key t m)

@@ -7,12 +7,12 @@ use Rattle.seq_tree.specs.declared.tree.Costs.{Costs}
 use Rattle.seq_tree.specs.declared.tree.OpName.{OpName}
 use Rattle.name_sets.specs.Tables.{at, or_0}
 use Rattle.name_sets.specs.declared.op_table.OpTable.{OpTable}
-use Rattle.ods_tree.specs.Designs.{Design, Empty, Node, Object}
+use Rattle.ods_tree.specs.Designs.{Body, Design, Empty, Node, Object}
 use Rattle.ods_tree.specs.declared.design.AttrKey.TheVariants.{ArrivalJitter}
 use Rattle.ods_tree.specs.declared.design.Kind.TheVariants.{Protected, Sporadic}
 use Rattle.design_rules.specs.Broken.{V10}
 use Rattle.ods_sources.specs.Requested.{AreDue, Knows, changes, greatest_count, held_count, held_named, object_callers, op_callers, source_fault}
-use Rattle.ods_bodies.specs.Held.{HeldBody}
+use Rattle.ods_index.specs.Calling.{Calls, body_calls}
 use Rattle.ods_sources.specs.Sourced.{leads_at, reaches_by}
 use Rattle.ods_sources.specs.declared.callers.Callers.{Callers}
 
@@ -28,6 +28,9 @@ free = record { assign = 1; test = 1; turn = 1; call = 1; nothing = 1; put = 1; 
 abbrev calls_set : Statements
 calls_set = Then (Call (codes "q") (codes "set") []) End
 
+abbrev put_body : Body
+put_body = record { name = codes "put"; locals = []; block = calls_set }
+
 -- a protected object whose operation calls q.set, where it requires these operations
 abbrev keeper : List OpName → Object
 keeper needs = record {
@@ -37,7 +40,7 @@ keeper needs = record {
   provides = [];
   needs = needs;
   vars = [];
-  bodies = record { name = codes "put"; locals = []; block = calls_set } ∷ [];
+  bodies = put_body ∷ [];
   thread = None;
   links = [];
 }
@@ -59,8 +62,8 @@ outer = record {
 abbrev small : Object → Design
 small o = record { name = codes "d"; version = None; costs = free; root = Node o Empty }
 
-abbrev body_with : List OpName → HeldBody
-body_with needs = record { name = put; needs = needs; block = calls_set }
+abbrev body_with : List OpName → Calls
+body_with needs = body_calls (small outer) Protected (codes "k") needs put_body
 
 named_so : held_named put (body_with []) ≡ body_with [] ∷ []
 named_so = refl
@@ -68,16 +71,16 @@ named_so = refl
 named_otherwise : held_named set (body_with []) ≡ []
 named_otherwise = refl
 
-calls_the_op : op_callers (small outer) set (body_with (set ∷ [])) ≡ put ∷ []
+calls_the_op : op_callers set (body_with (set ∷ [])) ≡ put ∷ []
 calls_the_op = refl
 
-calls_another_op : op_callers (small outer) put (body_with (set ∷ [])) ≡ []
+calls_another_op : op_callers put (body_with (set ∷ [])) ≡ []
 calls_another_op = refl
 
-calls_the_object : object_callers (small outer) (codes "q") (body_with (set ∷ [])) ≡ put ∷ []
+calls_the_object : object_callers (codes "q") (body_with (set ∷ [])) ≡ put ∷ []
 calls_the_object = refl
 
-calls_another_object : object_callers (small outer) (codes "k") (body_with (set ∷ [])) ≡ []
+calls_another_object : object_callers (codes "k") (body_with (set ∷ [])) ≡ []
 calls_another_object = refl
 
 requests_once : held_count (small outer) (codes "q") (λ n. 0) (body_with (set ∷ [])) ≡ 1

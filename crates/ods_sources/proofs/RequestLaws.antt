@@ -24,11 +24,15 @@ use Rattle.ods_tree.specs.Walk.{Standing, terminals}
 use Rattle.design_rules.specs.Sources.{body_starts, start_weight, starts_within}
 use Rattle.ods_sources.specs.Requested.{AreDue, call_weight, greatest_count, held_count, held_named, object_caller, object_callers, op_caller}
 use Rattle.ods_sources.specs.Requested.{op_callers}
-use Rattle.ods_bodies.specs.Held.{HeldBody, held, held_bodies, held_calls, held_in}
+use Rattle.ods_index.specs.Calling.{Calls, body_calls, object_calls, required_calls}
+use Rattle.ods_bodies.specs.Held.{held_bodies}
+use Rattle.ods_bodies.proofs.Shared.CalledLaws.{held-meant, held-of-objects}
+use Rattle.ods_bodies.proofs.Shared.Items.{In, any-in, from-filter, in-filter, in-flat, in-left, in-map, in-right, some-in}
 use Rattle.ods_starts.specs.Spreading.{found_all}
 use Rattle.ods_index.proofs.Shared.AccountSteps.{each-among}
 use Rattle.seq_cost.proofs.Shared.CutCosts.{cap-called}
-use Rattle.ods_starts.proofs.Shared.SpreadLaws.{In, any-some, any-true, grown-all, in-flat, in-left, in-right}
+use Rattle.ods_starts.proofs.Shared.SpreadLaws as spread
+use Rattle.ods_starts.proofs.Shared.SpreadLaws.{any-true, grown-all}
 
 cut-twice : (n k : ℕ) → n ≡ min 2 k → min 2 n ≡ min 2 k
 cut-twice n k e = grind (arith, e)
@@ -161,31 +165,6 @@ count-put v c n left after before put = by left (same_op c n) refl
     by false true e = ap or_0 (put ∙ ap (λ z. if z then Some (v c) else before) e) ∙ ap v (same_op-eq c n e)
     by false false e = ap or_0 (put ∙ ap (λ z. if z then Some (v c) else before) e)
 
--- an item that a filter leaves
-in-filter : (p : OpName → Bool) (a : OpName) (xs : List OpName) → In a xs → p a ≡ true → In a (filter p xs)
-in-filter p a [] h e = h
-in-filter p a (y ∷ xs) h e = by (λ j. in-filter p a xs j e) (p y) refl h
-  where
-    by : (In a xs → In a (filter p xs)) → (b : Bool) → p y ≡ b → In a (y ∷ xs) → In a (cond b (y ∷ filter p xs) (filter p xs))
-    by rest true k (inl s) = inl s
-    by rest true k (inr j) = inr (rest j)
-    by rest false k (inl s) = (let z : false ≡ true = sym k ∙ ap p s ∙ e in absurd (cc))
-    by rest false k (inr j) = rest j
-
-from-filter : (p : OpName → Bool) (a : OpName) (xs : List OpName) → In a (filter p xs) → In a xs
-from-filter p a [] h = h
-from-filter p a (y ∷ xs) h = by (from-filter p a xs) (p y) h
-  where
-    by : (In a (filter p xs) → In a xs) → (b : Bool) → In a (cond b (y ∷ filter p xs) (filter p xs)) → In a (y ∷ xs)
-    by rest true (inl s) = inl s
-    by rest true (inr j) = inr (rest j)
-    by rest false j = inr (rest j)
-
-in-map : (f : OpName → OpName) (a : OpName) (xs : List OpName) → In a xs → In (f a) (map f xs)
-in-map f a [] h = h
-in-map f a (y ∷ xs) (inl s) = inl (ap f s)
-in-map f a (y ∷ xs) (inr j) = inr (in-map f a xs j)
-
 each-in : (P : OpName → Type 0) (cs : List OpName) → ((c : OpName) → In c cs → P c) → Each P cs
 each-in P [] all = tt
 each-in P (c ∷ cs) all = (all c (inl refl), each-in P cs (λ d h. all d (inr h)))
@@ -195,65 +174,80 @@ abbrev Among : OpName → List OpName → Bool
 Among n xs = list_any (λ c. same_op c n) xs
 
 among-in : (n : OpName) (xs : List OpName) → Among n xs ≡ true → In n xs
-among-in n xs h = let r = any-some (λ c. same_op c n) xs h in let P : OpName → Type 0 = λ z. In z xs in subst P (same_op-eq r.0 n r.2) r.1
+among-in n xs h = let r = some-in (λ c. same_op c n) xs h in let P : OpName → Type 0 = λ z. In z xs in subst P (same_op-eq r.0 n r.2) r.1
 
 in-among : (n : OpName) (xs : List OpName) → In n xs → Among n xs ≡ true
-in-among n xs h = any-true (λ c. same_op c n) xs n h (same_op-refl n)
+in-among n xs h = any-in (λ c. same_op c n) n xs h (same_op-refl n)
+
+-- what is looked up is found
+found-among : (n : OpName) (ops : List OpName) → In n ops → Among n (found_all [] ops) ≡ true
+found-among n ops h = any-true (λ c. same_op c n) (found_all [] ops) n ((grown-all [] ops).found n (there ops h)) (same_op-refl n)
+  where
+    there : (xs : List OpName) → In n xs → spread.In n xs
+    there [] k = k
+    there (y ∷ xs) (inl e) = inl e
+    there (y ∷ xs) (inr k) = inr (there xs k)
 
 no : {A : Type 0} (b : Bool) → b ≡ true → b ≡ false → A
 no b h k = (let z : true ≡ false = sym h ∙ k in absurd (cc))
 
 module _ (x : Design) (target : Name) where
-  abbrev named : OpName → List HeldBody → List HeldBody
+  abbrev named : OpName → List Calls → List Calls
   named n hs = flat_map (held_named n) hs
 
   module _ (inner : OpName → ℕ) where
-    abbrev most : List HeldBody → ℕ
+    abbrev most : List Calls → ℕ
     most hs = greatest_count x target inner hs
+
+    abbrev calls : List Standing → List Calls
+    calls ss = flat_map (λ s. object_calls x s.own) ss
+
+    abbrev body : Object → Body → Calls
+    body o b = body_calls x o.kind o.name o.needs b
 
     abbrev own : Object → Body → ℕ
     own o b = counted (start_weight x target inner o) b.block
 
-    most-append : (hs ks : List HeldBody) → most (hs ++ ks) ≡ max (most hs) (most ks)
+    most-append : (hs ks : List Calls) → most (hs ++ ks) ≡ max (most hs) (most ks)
     most-append hs ks =
         ap (fold max 0) (map-append (held_count x target inner) hs ks)
         ∙ fold-both (map (held_count x target inner) hs) (map (held_count x target inner) ks)
 
-    most-cons : (h : HeldBody) (hs : List HeldBody) → most (h ∷ hs) ≡ max (held_count x target inner h) (most hs)
+    most-cons : (h : Calls) (hs : List Calls) → most (h ∷ hs) ≡ max (held_count x target inner h) (most hs)
     most-cons h hs = fold-cons (held_count x target inner h) (map (held_count x target inner) hs)
 
     -- the bodies of an object
     body-most : (n : OpName) (o : Object) (bs : List Body) → same_name o.name n.object ≡ true
-        → most (named n (map (held o.name o.needs) bs)) ≡ fold max 0 (map (own o) (filter (λ b. same_name b.name n.op) bs))
+        → most (named n (map (body o) bs)) ≡ fold max 0 (map (own o) (filter (λ b. same_name b.name n.op) bs))
     body-most n o [] e = refl
     body-most n o (b ∷ bs) e = by (same_name b.name n.op) refl (body-most n o bs e)
       where
-        h : HeldBody
-        h = held o.name o.needs b
+        h : Calls
+        h = body o b
 
-        by : (t : Bool) → same_name b.name n.op ≡ t → most (named n (map (held o.name o.needs) bs))
+        by : (t : Bool) → same_name b.name n.op ≡ t → most (named n (map (body o) bs))
             ≡ fold max 0 (map (own o) (filter (λ d. same_name d.name n.op) bs))
-            → most ((if same_name o.name n.object && same_name b.name n.op then h ∷ [] else []) ++ named n (map (held o.name o.needs) bs))
+            → most ((if same_name o.name n.object && same_name b.name n.op then h ∷ [] else []) ++ named n (map (body o) bs))
             ≡ fold max 0 (map (own o)
             (cond (same_name b.name n.op) (b ∷ filter (λ d. same_name d.name n.op) bs) (filter (λ d. same_name d.name n.op) bs)))
         by true t k =
-            rw (e, t) (most-cons h (named n (map (held o.name o.needs) bs)) ∙ ap (max (own o b)) k
+            rw (e, t) (most-cons h (named n (map (body o) bs)) ∙ ap (max (own o b)) k
             ∙ sym (fold-cons (own o b) (map (own o) (filter (λ d. same_name d.name n.op) bs))))
         by false t k = rw (e, t) k
 
-    body-none : (n : OpName) (o : Object) (bs : List Body) → same_name o.name n.object ≡ false → named n (map (held o.name o.needs) bs) ≡ []
+    body-none : (n : OpName) (o : Object) (bs : List Body) → same_name o.name n.object ≡ false → named n (map (body o) bs) ≡ []
     body-none n o [] e = refl
     body-none n o (b ∷ bs) e =
-        ap (λ t. (if t && same_name b.name n.op then held o.name o.needs b ∷ [] else []) ++ named n (map (held o.name o.needs) bs)) e
+        ap (λ t. (if t && same_name b.name n.op then body o b ∷ [] else []) ++ named n (map (body o) bs)) e
         ∙ body-none n o bs e
 
     object-most : (n : OpName) (ss : List Standing)
-        → most (named n (flat_map (λ s. held_in s.own) ss))
+        → most (named n (calls ss))
         ≡ fold max 0 (map (body_starts x target inner n.op) (filter (λ o. same_name o.name n.object) (map (λ s. s.own) ss)))
     object-most n [] = refl
     object-most n (s ∷ ss) =
-        ap most (flat_map-append (held_named n) (held_in s.own) (flat_map (λ s. held_in s.own) ss))
-        ∙ most-append (named n (held_in s.own)) (named n (flat_map (λ s. held_in s.own) ss))
+        ap most (flat_map-append (held_named n) (object_calls x s.own) (calls ss))
+        ∙ most-append (named n (object_calls x s.own)) (named n (calls ss))
         ∙ by (same_name s.own.name n.object) refl (object-most n ss)
       where
         rest : List Object
@@ -262,43 +256,54 @@ module _ (x : Design) (target : Name) where
         max-zero : (k : ℕ) → max 0 k ≡ k
         max-zero k = grind arith
 
-        by : (t : Bool) → same_name s.own.name n.object ≡ t → most (named n (flat_map (λ s. held_in s.own) ss))
+        by : (t : Bool) → same_name s.own.name n.object ≡ t → most (named n (calls ss))
             ≡ fold max 0 (map (body_starts x target inner n.op) rest)
-            → max (most (named n (held_in s.own))) (most (named n (flat_map (λ s. held_in s.own) ss)))
+            → max (most (named n (object_calls x s.own))) (most (named n (calls ss)))
             ≡ fold max 0 (map (body_starts x target inner n.op) (cond (same_name s.own.name n.object) (s.own ∷ rest) rest))
         by true t k =
-            rw t (ap (λ m. max m (most (named n (flat_map (λ s. held_in s.own) ss)))) (body-most n s.own s.own.bodies t)
+            rw t (ap (λ m. max m (most (named n (calls ss)))) (body-most n s.own s.own.bodies t)
             ∙ ap (max (body_starts x target inner n.op s.own)) k
             ∙ sym (fold-cons (body_starts x target inner n.op s.own) (map (body_starts x target inner n.op) rest)))
         by false t k =
-            rw t (ap (λ hs. max (most hs) (most (named n (flat_map (λ s. held_in s.own) ss)))) (body-none n s.own s.own.bodies t) ∙ max-zero _ ∙ k)
+            rw t (ap (λ hs. max (most hs) (most (named n (calls ss)))) (body-none n s.own s.own.bodies t) ∙ max-zero _ ∙ k)
 
   -- one level deeper, body by body
   pub deeper-count : (depth : ℕ) (n : OpName) → starts_within (suc depth) x target n
       ≡ greatest_count x target (starts_within depth x target) (flat_map (held_named n) (held_bodies x))
-  deeper-count depth n = sym (object-most (starts_within depth x target) n (filter (λ s. is_protected s.own.kind) (terminals x)))
+  deeper-count depth n =
+      let inner : OpName → ℕ = starts_within depth x target in
+      sym (ap (λ hs. greatest_count x target inner (named n hs)) (held-of-objects x (terminals x))
+      ∙ object-most inner n (filter (λ s. is_protected s.own.kind) (terminals x)))
 
   -- a call that a body makes is listed with it
-  op-listed : (n m : OpName) (h : HeldBody) → same_op h.name n ≡ true → In m (held_calls x h) → In n (op_callers x m h)
+  op-listed : (n m : OpName) (h : Calls) → same_op h.name n ≡ true → In m h.meant → In n (op_callers m h)
   op-listed n m h e k =
       let P : Bool → Type 0 = λ b. In n (if b then h.name ∷ [] else []) in
-      in-flat (op_caller m h.name) m n (held_calls x h) k (subst P (sym (same_op-refl m)) (inl (same_op-eq h.name n e)))
+      in-flat (op_caller m h.name) m n h.meant k (subst P (sym (same_op-refl m)) (inl (same_op-eq h.name n e)))
 
-  object-listed : (n m : OpName) (h : HeldBody) → same_op h.name n ≡ true → same_name m.object target ≡ true → In m (held_calls x h)
-      → In n (object_callers x target h)
+  object-listed : (n m : OpName) (h : Calls) → same_op h.name n ≡ true → same_name m.object target ≡ true → In m h.meant
+      → In n (object_callers target h)
   object-listed n m h e s k =
       let P : Bool → Type 0 = λ b. In n (if b then h.name ∷ [] else []) in
-      in-flat (object_caller target h.name) m n (held_calls x h) k (subst P (sym s) (inl (same_op-eq h.name n e)))
+      in-flat (object_caller target h.name) m n h.meant k (subst P (sym s) (inl (same_op-eq h.name n e)))
 
-  meant-in : (h : HeldBody) (c : OpName) → In c (block_calls h.block) → list_any (same_op c) h.needs ≡ true → In (resolve x c) (held_calls x h)
-  meant-in h c k e =
-      in-map (resolve x) c (filter (λ d. list_any (same_op d) h.needs) (block_calls h.block))
-      (in-filter (λ d. list_any (same_op d) h.needs) c (block_calls h.block) k e)
+  -- bodies that call what they require, links followed
+  abbrev Means : Calls → Type 0
+  Means h = h.meant ≡ required_calls x h.needs h.block
+
+  abbrev AllMean : List Calls → Type 0
+  AllMean hs = (h : Calls) → In h hs → Means h
+
+  meant-in : (h : Calls) (c : OpName) → Means h → In c (block_calls h.block) → list_any (same_op c) h.needs ≡ true → In (resolve x c) h.meant
+  meant-in h c is k e =
+      let P : List OpName → Type 0 = λ l. In (resolve x c) l in
+      subst P (sym is) (in-map (resolve x) c (filter (λ d. list_any (same_op d) h.needs) (block_calls h.block))
+      (in-filter (λ d. list_any (same_op d) h.needs) c (block_calls h.block) k e))
 
   -- a body, where what it calls counts the same
-  held-same : (f g : OpName → ℕ) (h : HeldBody) → ((m : OpName) → In m (held_calls x h) → min 2 (f m) ≡ min 2 (g m))
+  held-same : (f g : OpName → ℕ) (h : Calls) → Means h → ((m : OpName) → In m h.meant → min 2 (f m) ≡ min 2 (g m))
       → min 2 (held_count x target f h) ≡ min 2 (held_count x target g h)
-  held-same f g h same =
+  held-same f g h is same =
       counted-each (λ object op. call_weight x target f h.needs (record { object = object; op = op }))
       (λ object op. call_weight x target g h.needs (record { object = object; op = op })) h.block
       (each-in (λ c. min 2 (call_weight x target f h.needs c) ≡ min 2 (call_weight x target g h.needs c)) (block_calls h.block) (λ c k. one c k))
@@ -309,15 +314,15 @@ module _ (x : Design) (target : Name) where
           by : (a : Bool) → list_any (same_op c) h.needs ≡ a → (b : Bool) → min 2 (if a then (if b then 1 else f (resolve x c)) else 0)
               ≡ min 2 (if a then (if b then 1 else g (resolve x c)) else 0)
           by true e true = refl
-          by true e false = same (resolve x c) (meant-in h c k e)
+          by true e false = same (resolve x c) (meant-in h c is k e)
           by false e b = refl
 
   abbrev weigh : Bool → Bool → ℕ
   weigh required here = if required then (if here then 1 else 0) else 0
 
   -- a body that calls no operation of the target, where others count nothing
-  held-quiet : (h : HeldBody) → ((m : OpName) → In m (held_calls x h) → same_name m.object target ≡ true → ⊥) → held_count x target (λ m. 0) h ≡ 0
-  held-quiet h quiet =
+  held-quiet : (h : Calls) → Means h → ((m : OpName) → In m h.meant → same_name m.object target ≡ true → ⊥) → held_count x target (λ m. 0) h ≡ 0
+  held-quiet h is quiet =
       counted-quiet (λ object op. call_weight x target (λ m. 0) h.needs (record { object = object; op = op })) h.block
       (each-in (λ c. call_weight x target (λ m. 0) h.needs c ≡ 0) (block_calls h.block) (λ c k. one c k))
     where
@@ -325,7 +330,7 @@ module _ (x : Design) (target : Name) where
       one c k = by (list_any (same_op c) h.needs) refl (same_name (resolve x c).object target) refl
         where
           by : (a : Bool) → list_any (same_op c) h.needs ≡ a → (b : Bool) → same_name (resolve x c).object target ≡ b → weigh a b ≡ 0
-          by true e true s = absurd (quiet (resolve x c) (meant-in h c k e) s)
+          by true e true s = absurd (quiet (resolve x c) (meant-in h c is k e) s)
           by true e false s = refl
           by false e b s = refl
 
@@ -333,11 +338,13 @@ module _ (x : Design) (target : Name) where
   cap-pair a b c d h k = grind (arith, h, k)
 
   -- an operation, where what calls it makes counts the same
-  pub local : (f g : OpName → ℕ) (n : OpName) (hs : List HeldBody) → ((m : OpName) → In n (flat_map (op_callers x m) hs) → min 2 (f m) ≡ min 2 (g m))
+  pub local : (f g : OpName → ℕ) (n : OpName) (hs : List Calls) → AllMean hs
+      → ((m : OpName) → In n (flat_map (op_callers m) hs) → min 2 (f m) ≡ min 2 (g m))
       → min 2 (greatest_count x target f (named n hs)) ≡ min 2 (greatest_count x target g (named n hs))
-  local f g n [] same = refl
-  local f g n (h ∷ hs) same =
-      by (same_op h.name n) refl (local f g n hs (λ m k. same m (in-right n (op_callers x m h) (flat_map (op_callers x m) hs) k)))
+  local f g n [] mean same = refl
+  local f g n (h ∷ hs) mean same =
+      by (same_op h.name n) refl
+      (local f g n hs (λ k at. mean k (inr at)) (λ m k. same m (in-right n (op_callers m h) (flat_map (op_callers m) hs) k)))
     where
       by : (t : Bool) → same_op h.name n ≡ t → min 2 (greatest_count x target f (named n hs)) ≡ min 2 (greatest_count x target g (named n hs))
           → min 2 (greatest_count x target f ((if t then h ∷ [] else []) ++ named n hs))
@@ -346,7 +353,7 @@ module _ (x : Design) (target : Name) where
           ap (min 2) (most-cons f h (named n hs))
           ∙ cap-pair (held_count x target f h) (held_count x target g h) (greatest_count x target f (named n hs))
           (greatest_count x target g (named n hs))
-          (held-same f g h (λ m j. same m (in-left n (op_callers x m h) (flat_map (op_callers x m) hs) (op-listed n m h e j)))) k
+          (held-same f g h (mean h (inl refl)) (λ m j. same m (in-left n (op_callers m h) (flat_map (op_callers m) hs) (op-listed n m h e j)))) k
           ∙ ap (min 2) (sym (most-cons g h (named n hs)))
       by false e k = k
 
@@ -354,35 +361,36 @@ module _ (x : Design) (target : Name) where
   max-nothing a b h k = grind (arith, h, k)
 
   -- an operation that calls none of the target
-  quiet-here : (n : OpName) (hs : List HeldBody) → (In n (flat_map (object_callers x target) hs) → ⊥)
+  quiet-here : (n : OpName) (hs : List Calls) → AllMean hs → (In n (flat_map (object_callers target) hs) → ⊥)
       → greatest_count x target (λ m. 0) (named n hs) ≡ 0
-  quiet-here n [] quiet = refl
-  quiet-here n (h ∷ hs) quiet =
-      by (same_op h.name n) refl (quiet-here n hs (λ k. quiet (in-right n (object_callers x target h) (flat_map (object_callers x target) hs) k)))
+  quiet-here n [] mean quiet = refl
+  quiet-here n (h ∷ hs) mean quiet =
+      by (same_op h.name n) refl
+      (quiet-here n hs (λ k at. mean k (inr at)) (λ k. quiet (in-right n (object_callers target h) (flat_map (object_callers target) hs) k)))
     where
       by : (t : Bool) → same_op h.name n ≡ t → greatest_count x target (λ m. 0) (named n hs) ≡ 0
           → greatest_count x target (λ m. 0) ((if t then h ∷ [] else []) ++ named n hs) ≡ 0
       by true e k =
           most-cons (λ m. 0) h (named n hs)
           ∙ max-nothing (held_count x target (λ m. 0) h) (greatest_count x target (λ m. 0) (named n hs))
-          (held-quiet h (λ m j s. quiet
-          (in-left n (object_callers x target h) (flat_map (object_callers x target) hs) (object-listed n m h e s j)))) k
+          (held-quiet h (mean h (inl refl)) (λ m j s. quiet
+          (in-left n (object_callers target h) (flat_map (object_callers target) hs) (object-listed n m h e s j)))) k
       by false e k = k
 
   abbrev cut : ℕ → OpName → ℕ
   cut depth n = min 2 (starts_within depth x target n)
 
   -- what is due first
-  pub first-due : (found : List OpName) → found ≡ flat_map (object_callers x target) (held_bodies x) → AreDue x target 0 (found_all [] found)
+  pub first-due : (found : List OpName) → found ≡ flat_map (object_callers target) (held_bodies x) → AreDue x target 0 (found_all [] found)
   first-due found is n = by (Among n (found_all [] found)) refl
     where
       by : (b : Bool) → Among n (found_all [] found) ≡ b → (Among n (found_all [] found) ≡ true) ⊎ (cut 0 n ≡ cut 1 n)
       by true e = inl e
       by false e =
-          inr (ap (min 2) (sym (deeper-count 0 n ∙ quiet-here n (held_bodies x)
+          inr (ap (min 2) (sym (deeper-count 0 n ∙ quiet-here n (held_bodies x) (held-meant x)
           (λ k.
           let P : List OpName → Type 0 = λ z. In n z in no (Among n (found_all [] found))
-          (in-among n (found_all [] found) ((grown-all [] found).found n (subst P (sym is) k))) e))))
+          (found-among n found (subst P (sym is) k)) e))))
 
   -- what was due and didn't change, or wasn't due, is the same one level deeper
   pub same-unless : (depth : ℕ) (due : List OpName) (known counts : OpName → ℕ) → ((n : OpName) → known n ≡ cut depth n) → AreDue x target depth due
@@ -418,12 +426,12 @@ module _ (x : Design) (target : Name) where
       by : (b : Bool) → Among n changed ≡ b → next n ≡ cut (suc depth) n
       by true e =
           is n ∙ ap (λ b. if b then counts n else known n) e
-          ∙ count n (in-among n due (from-filter (λ m. not (nat_eq (known m) (counts m))) n due (among-in n changed e)))
+          ∙ count n (in-among n due (from-filter (λ m. not (nat_eq (known m) (counts m))) n due (among-in n changed e)).0)
       by false e = is n ∙ ap (λ b. if b then counts n else known n) e ∙ knows n ∙ same-unless depth due known counts knows are count n e
 
   -- and what is due then
   pub next-due : (depth : ℕ) (callers : OpName → List OpName) (changed : List OpName)
-      → ((n : OpName) → callers n ≡ flat_map (op_callers x n) (held_bodies x))
+      → ((n : OpName) → callers n ≡ flat_map (op_callers n) (held_bodies x))
       → ((n : OpName) → Among n changed ≡ false → cut depth n ≡ cut (suc depth) n)
       → AreDue x target (suc depth) (found_all [] (flat_map callers changed))
   next-due depth callers changed is same n = by (Among n due) refl
@@ -431,25 +439,26 @@ module _ (x : Design) (target : Name) where
       due : List OpName
       due = found_all [] (flat_map callers changed)
 
-      unchanged : (m : OpName) → Among n due ≡ false → In n (flat_map (op_callers x m) (held_bodies x)) → (b : Bool) → Among m changed ≡ b → b ≡ false
+      unchanged : (m : OpName) → Among n due ≡ false → In n (flat_map (op_callers m) (held_bodies x)) → (b : Bool) → Among m changed ≡ b → b ≡ false
       unchanged m e k true h =
           let P : List OpName → Type 0 = λ z. In n z in
-          no (Among n due) (in-among n due
-          ((grown-all [] (flat_map callers changed)).found n (in-flat callers m n changed (among-in m changed h) (subst P (sym (is m)) k)))) e
+          no (Among n due)
+          (found-among n (flat_map callers changed) (in-flat callers m n changed (among-in m changed h) (subst P (sym (is m)) k))) e
       unchanged m e k false h = refl
 
       by : (b : Bool) → Among n due ≡ b → (Among n due ≡ true) ⊎ (cut (suc depth) n ≡ cut (suc (suc depth)) n)
       by true e = inl e
       by false e =
           inr (ap (min 2) (deeper-count depth n)
-          ∙ local (starts_within depth x target) (starts_within (suc depth) x target) n (held_bodies x)
+          ∙ local (starts_within depth x target) (starts_within (suc depth) x target) n (held_bodies x) (held-meant x)
           (λ m k. same m (unchanged m e k (Among m changed) refl))
           ∙ ap (min 2) (sym (deeper-count (suc depth) n)))
 
   -- where nothing is due, nothing changes however deep calls are followed
   still : (depth : ℕ) → ((n : OpName) → cut depth n ≡ cut (suc depth) n) → (n : OpName) → cut (suc depth) n ≡ cut (suc (suc depth)) n
   still depth same n =
-      ap (min 2) (deeper-count depth n) ∙ local (starts_within depth x target) (starts_within (suc depth) x target) n (held_bodies x) (λ m k. same m)
+      ap (min 2) (deeper-count depth n)
+      ∙ local (starts_within depth x target) (starts_within (suc depth) x target) n (held_bodies x) (held-meant x) (λ m k. same m)
       ∙ ap (min 2) (sym (deeper-count (suc depth) n))
 
   settled : (more depth : ℕ) → ((n : OpName) → cut depth n ≡ cut (suc depth) n) → (n : OpName) → cut depth n ≡ cut (more + depth) n

@@ -12,7 +12,7 @@ use Rattle.ods_tree.specs.declared.design.Node.{Node}
 use Rattle.design_rules.specs.Rings.{thread_objects}
 use Rattle.design_rules.specs.Sources.{requests_by}
 use Rattle.ods_sources.specs.Requested.{bodies_at, held_named}
-use Rattle.ods_bodies.specs.Held.{held_bodies, held_of}
+use Rattle.ods_bodies.specs.Held.{held_bodies}
 use Rattle.ods_sources.specs.Requesters.{HasCallers}
 use Rattle.ods_sources.specs.Singles.{is_once}
 use Rattle.ods_starts.specs.Spreading.{reaches}
@@ -30,18 +30,17 @@ reacher_of r = object_of r.thread.now
 
 -- what shows at once is that of its design
 pub record AreShown (s : Shown) : Type 0 where
-  pub listed : map held_of s.listed.items ≡ held_bodies (design_of s.starts.links.design.now)
-  pub threads : map thread_of s.threads.items ≡ thread_objects (design_of s.starts.links.design.now)
+  pub threads : map thread_of s.threads.items ≡ thread_objects (design_of s.starts.links.now.design.now)
   pub reached : (n : Name) → is_some (place_in s.reached n)
-      ≡ list_any (λ o. reaches (design_of s.starts.links.design.now) o n) (thread_objects (design_of s.starts.links.design.now))
+      ≡ list_any (λ o. reaches (design_of s.starts.links.now.design.now) o n) (thread_objects (design_of s.starts.links.now.design.now))
   pub once : (n : Name) → is_once s.once n ≡ true
-      → fold max 0 (map (requests_by (design_of s.starts.links.design.now) n) (thread_objects (design_of s.starts.links.design.now))) ≤ 1
+      → fold max 0 (map (requests_by (design_of s.starts.links.now.design.now) n) (thread_objects (design_of s.starts.links.now.design.now))) ≤ 1
   pub alone : (n : Name) → is_once s.once n ≡ true
-      → length (filter (λ o. reaches (design_of s.starts.links.design.now) o n) (thread_objects (design_of s.starts.links.design.now))) ≤ 1
-  pub few : length (thread_objects (design_of s.starts.links.design.now)) < 4294967295
+      → length (filter (λ o. reaches (design_of s.starts.links.now.design.now) o n) (thread_objects (design_of s.starts.links.now.design.now))) ≤ 1
+  pub few : length (thread_objects (design_of s.starts.links.now.design.now)) < 4294967295
 
 -- what requests are counted by is that of its design
 pub record AreRight (r : Requests) : Type 0 where
   pub shown : AreShown r.shown
-  pub named : (n : OpName) → bodies_at r.bodies n ≡ flat_map (held_named n) (held_bodies (design_of r.shown.starts.links.design.now))
-  pub called : HasCallers (design_of r.shown.starts.links.design.now) r.callers
+  pub named : (n : OpName) → bodies_at r.bodies n ≡ flat_map (held_named n) (held_bodies (design_of r.shown.starts.links.now.design.now))
+  pub called : HasCallers (design_of r.shown.starts.links.now.design.now) r.callers

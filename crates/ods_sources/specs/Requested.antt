@@ -15,8 +15,9 @@ use Rattle.ods_tree.specs.Walk.{only_if}
 use Rattle.design_rules.specs.Broken.{Broken, V10}
 use Rattle.design_rules.specs.Lookups.{is_sporadic}
 use Rattle.design_rules.specs.Sources.{breaks_sources, source_count, start_count, starts_within}
-use Rattle.ods_bodies.specs.Held.{HeldBody, held_calls, held_of}
+use Rattle.ods_index.specs.Calling.{Calls, calls_of}
 use Rattle.ods_sources.specs.declared.bodies.Bodies.{Bodies}
+use Rattle.ods_sources.specs.declared.bodies.Body.{Body}
 
 -- how often a call requests a target, where these operations are required
 abbrev pub call_weight : Design → Name → (OpName → ℕ) → List OpName → OpName → ℕ
@@ -40,15 +41,15 @@ abbrev pub changes : OpTable ℕ → OpTable ℕ → OpName → Bool
 changes known counts n = not (nat_eq (known_in known n) (known_in counts n))
 
 -- one, where it is that of an operation of this name
-abbrev pub held_named : OpName → HeldBody → List HeldBody
+abbrev pub held_named : OpName → Calls → List Calls
 held_named n h = if same_op h.name n then h ∷ [] else []
 
 -- how often one requests a target on one path, at most
-abbrev pub held_count : Design → Name → (OpName → ℕ) → HeldBody → ℕ
+abbrev pub held_count : Design → Name → (OpName → ℕ) → Calls → ℕ
 held_count x target inner h = block_count x target inner h.needs h.block
 
 -- the greatest of some
-abbrev pub greatest_count : Design → Name → (OpName → ℕ) → List HeldBody → ℕ
+abbrev pub greatest_count : Design → Name → (OpName → ℕ) → List Calls → ℕ
 greatest_count x target inner hs = fold max 0 (map (held_count x target inner) hs)
 
 -- an operation that makes a call, where that is one of an operation, and of an object
@@ -59,14 +60,18 @@ abbrev pub object_caller : Name → OpName → OpName → List OpName
 object_caller name from c = if same_name c.object name then from ∷ [] else []
 
 -- an operation so often as its body calls another, and an object
-abbrev pub op_callers : Design → OpName → HeldBody → List OpName
-op_callers x n h = flat_map (op_caller n h.name) (held_calls x h)
+abbrev pub op_callers : OpName → Calls → List OpName
+op_callers n h = flat_map (op_caller n h.name) h.meant
 
-abbrev pub object_callers : Design → Name → HeldBody → List OpName
-object_callers x name h = flat_map (object_caller name h.name) (held_calls x h)
+abbrev pub object_callers : Name → Calls → List OpName
+object_callers name h = flat_map (object_caller name h.name) h.meant
+
+-- one as it is kept
+abbrev pub held_of : Body → Calls
+held_of b = calls_of b.calls.now
 
 -- the bodies that are kept for an operation
-unfoldable pub bodies_at : Bodies → OpName → List HeldBody
+unfoldable pub bodies_at : Bodies → OpName → List Calls
 bodies_at t name = map held_of (listed (at t.bodies name))
 
 -- the operations whose counts change one level deeper are among these

@@ -11,5 +11,5 @@ use Rattle.ods_sources.specs.declared.callers.Callers.{Callers}
 
 -- the tables are those of a design
 pub record HasCallers (x : Design) (t : Callers) : Type 0 where
-  pub ops : (n : OpName) → inner_at t.ops n ≡ flat_map (op_callers x n) (held_bodies x)
-  pub objects : (n : Name) → body_at t.objects n ≡ flat_map (object_callers x n) (held_bodies x)
+  pub ops : (n : OpName) → inner_at t.ops n ≡ flat_map (op_callers n) (held_bodies x)
+  pub objects : (n : Name) → body_at t.objects n ≡ flat_map (object_callers n) (held_bodies x)

@@ -1,25 +1,31 @@
-ghost use Rattle.std.specs.Prelude.{◌≡◌, ◌++◌, [], IfOk, OnOk, flat_map, map, option_map, unwrap_or};
+ghost use Rattle.std.specs.Prelude.{◌≡◌, ◌∷◌, ◌++◌, [], IfOk, OnOk, filter, flat_map, map, option_map, unwrap_or};
 ghost use Rattle.seq_tree.specs.declared.tree.OpName.{OpName as OpTree};
+ghost use Rattle.ods_index.specs.Calling.{calls_of};
 ghost use Rattle.ods_index.specs.Linked.{op_of};
-ghost use Rattle.ods_sources.specs.Requested.{bodies_at, held_named};
-ghost use Rattle.ods_bodies.specs.Held.{held_of};
+ghost use Rattle.ods_bodies.specs.Held.{is_held};
+ghost use Rattle.ods_sources.specs.Requested.{bodies_at, held_named, held_of};
 
 use name_sets::OpTable;
-use ods_bodies::ProtectedBody;
-use ods_index::OpView;
+use ods_index::{OpCalls, OpView, is_protected};
 use seq_tree::NoMemory;
 use std::alloc::Global;
 
-/// The bodies of protected operations by the names of these.
-#[derive(Drop)]
-pub(crate) struct Bodies<'a> {
-    bodies: OpTable<'a, Vec<ProtectedBody<'a>>>,
+/// A body of a protected operation. The prover has rules for slices of such a struct, and none for slices of the references in it.
+#[derive(Clone, Copy)]
+pub(crate) struct Body<'k, 'a> {
+    pub(crate) calls: &'k OpCalls<'a>,
 }
 
-impl<'a> Bodies<'a> {
+/// The bodies of protected operations by the names of these.
+#[derive(Drop)]
+pub(crate) struct Bodies<'k, 'a> {
+    bodies: OpTable<'a, Vec<Body<'k, 'a>>>,
+}
+
+impl<'k, 'a> Bodies<'k, 'a> {
     /// No bodies.
     #[tactic(auto, unfolding(crate::specs::Requested::bodies_at))]
-    fn new(alloc: Global) -> Bodies<'a>
+    fn new(alloc: Global) -> Bodies<'k, 'a>
         ensures { (n : OpTree) → bodies_at result n ≡ [] }
     {
         Bodies {
@@ -29,7 +35,7 @@ impl<'a> Bodies<'a> {
 
     /// The bodies of an operation, where there is one.
     #[tactic(auto, unfolding(crate::specs::Requested::bodies_at))]
-    pub(crate) fn get(&self, op: &OpView<'a>) -> Option<&[ProtectedBody<'a>]>
+    pub(crate) fn get(&self, op: &OpView<'a>) -> Option<&[Body<'k, 'a>]>
         ensures { unwrap_or (option_map (λ v. map held_of v.now) result) [] ≡ bodies_at self.now (op_of op.entry.now) }
     {
         match self.bodies.find(op.object, op.op) {
@@ -40,24 +46,35 @@ impl<'a> Bodies<'a> {
 
     /// Adds a body.
     #[tactic(auto, unfolding(crate::specs::Requested::bodies_at))]
-    fn add(&mut self, alloc: Global, body: &ProtectedBody<'a>) -> Result<(), NoMemory>
-        ensures { OnOk result ((n : OpTree) → bodies_at self.new n ≡ bodies_at self.old n ++ held_named n (held_of body.entry.now)) }
+    fn add(&mut self, alloc: Global, calls: &'k OpCalls<'a>) -> Result<(), NoMemory>
+        ensures { OnOk result ((n : OpTree) → bodies_at self.new n ≡ bodies_at self.old n ++ held_named n (calls_of calls.entry.now)) }
     {
-        let more = vec![in alloc; body.again()?]?;
-        self.bodies.extend(alloc, body.object, body.op, more)
+        let more = vec![in alloc; Body { calls }]?;
+        self.bodies.extend(alloc, calls.object, calls.op, more)
+    }
+
+    /// Adds a body, where its object is protected.
+    fn add_held(&mut self, alloc: Global, calls: &'k OpCalls<'a>) -> Result<(), NoMemory>
+        ensures { OnOk result ((n : OpTree) → bodies_at self.new n ≡ bodies_at self.old n
+            ++ flat_map (held_named n) (filter is_held (calls_of calls.entry.now ∷ []))) }
+    {
+        if !is_protected(calls.kind) {
+            return Ok(());
+        }
+        self.add(alloc, calls)
     }
 }
 
-/// These bodies by the names of their operations.
-pub(crate) fn table_of<'a>(
+/// Those of protected objects of these bodies, by the names of their operations.
+pub(crate) fn table_of<'k, 'a>(
     alloc: Global,
-    bodies: &[ProtectedBody<'a>],
-) -> Result<Bodies<'a>, NoMemory>
-    ensures { IfOk result (λ t. (n : OpTree) → bodies_at t n ≡ flat_map (held_named n) (map held_of bodies.entry.now)) }
+    calls: &'k [OpCalls<'a>],
+) -> Result<Bodies<'k, 'a>, NoMemory>
+    ensures { IfOk result (λ t. (n : OpTree) → bodies_at t n ≡ flat_map (held_named n) (filter is_held (map calls_of calls.entry.now))) }
 {
     let mut table = Bodies::new(alloc);
-    'bodies: for body in bodies {
-        table.add(alloc, body)?;
+    'calls: for body in calls {
+        table.add_held(alloc, body)?;
     }
     Ok(table)
 }

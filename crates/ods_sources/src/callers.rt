@@ -1,16 +1,15 @@
-ghost use Rattle.std.specs.Prelude.{◌≡◌, ◌++◌, [], IfOk, OnOk, flat_map, map};
+ghost use Rattle.std.specs.Prelude.{◌≡◌, ◌∷◌, ◌++◌, [], IfOk, OnOk, filter, flat_map, map};
 ghost use Rattle.seq_tree.specs.Names.{Name as NameTree};
 ghost use Rattle.seq_tree.specs.declared.tree.OpName.{OpName as OpTree};
-ghost use Rattle.ods_tree.specs.Trees.{design_of};
+ghost use Rattle.ods_index.specs.Calling.{calls_of};
 ghost use Rattle.ods_index.specs.Linked.{op_of};
-ghost use Rattle.ods_bodies.specs.Held.{held_of};
+ghost use Rattle.ods_bodies.specs.Held.{is_held};
 ghost use Rattle.ods_sources.specs.Requested.{object_caller, object_callers, op_caller, op_callers};
 ghost use Rattle.ods_starts.specs.Spreading.{body_at, found_all, inner_at, spread};
 
 use name_sets::Ops;
-use ods_bodies::ProtectedBody;
-use ods_index::{Links, OpView};
-use ods_starts::{BodyCalls, Inner, find_all, follow_all, meant_calls, search};
+use ods_index::{OpCalls, OpView, is_protected};
+use ods_starts::{BodyCalls, Inner, find_all, follow_all, search};
 use seq_tree::{Name, NoMemory};
 use std::alloc::Global;
 
@@ -64,40 +63,32 @@ impl<'a> Callers<'a> {
         Ok(())
     }
 
-    /// Adds the calls of a body.
-    fn add_body(
-        &mut self,
-        alloc: Global,
-        links: &Links<'a>,
-        body: &ProtectedBody<'a>,
-    ) -> Result<(), NoMemory>
+    /// Adds the calls of a body, where its object is protected.
+    fn add_body(&mut self, alloc: Global, body: &OpCalls<'a>) -> Result<(), NoMemory>
         ensures ops { OnOk result ((n : OpTree) → inner_at self.new.ops n ≡ inner_at self.old.ops n
-            ++ op_callers (design_of links.now.design.now) n (held_of body.entry.now)) }
+            ++ flat_map (op_callers n) (filter is_held (calls_of body.entry.now ∷ []))) }
         ensures objects { OnOk result ((n : NameTree) → body_at self.new.objects n ≡ body_at self.old.objects n
-            ++ object_callers (design_of links.now.design.now) n (held_of body.entry.now)) }
+            ++ flat_map (object_callers n) (filter is_held (calls_of body.entry.now ∷ []))) }
     {
-        let calls = meant_calls(alloc, links, &body.needs, body.block)?;
+        if !is_protected(body.kind) {
+            return Ok(());
+        }
         let from = OpView {
             object: body.object,
             op: body.op,
         };
-        self.add_calls(alloc, from, calls.as_slice())
+        self.add_calls(alloc, from, body.meant.as_slice())
     }
 
-    /// Which of these bodies call what.
-    pub(crate) fn of_bodies(
-        alloc: Global,
-        links: &Links<'a>,
-        bodies: &[ProtectedBody<'a>],
-    ) -> Result<Callers<'a>, NoMemory>
-        ensures ops { IfOk result (λ t. (n : OpTree) → inner_at t.ops n
-            ≡ flat_map (op_callers (design_of links.now.design.now) n) (map held_of bodies.entry.now)) }
+    /// Which of these bodies call what, of protected objects.
+    pub(crate) fn of_bodies(alloc: Global, calls: &[OpCalls<'a>]) -> Result<Callers<'a>, NoMemory>
+        ensures ops { IfOk result (λ t. (n : OpTree) → inner_at t.ops n ≡ flat_map (op_callers n) (filter is_held (map calls_of calls.entry.now))) }
         ensures objects { IfOk result (λ t. (n : NameTree) → body_at t.objects n
-            ≡ flat_map (object_callers (design_of links.now.design.now) n) (map held_of bodies.entry.now)) }
+            ≡ flat_map (object_callers n) (filter is_held (map calls_of calls.entry.now))) }
     {
         let mut callers = Callers::new(alloc);
-        'bodies: for body in bodies {
-            callers.add_body(alloc, links, body)?;
+        'calls: for body in calls {
+            callers.add_body(alloc, body)?;
         }
         Ok(callers)
     }

@@ -4,17 +4,17 @@ ghost use Rattle.call_graph.specs.Once.{caller_of};
 ghost use Rattle.seq_cost.specs.Different.{call_of};
 ghost use Rattle.ods_tree.specs.Trees.{design_of};
 ghost use Rattle.design_rules.specs.Sources.{requests_by};
+ghost use Rattle.ods_index.specs.Calling.{calls_of, design_calls};
 ghost use Rattle.ods_index.specs.Walking.{object_of};
 ghost use Rattle.ods_sources.specs.Reaching.{thread_of};
-ghost use Rattle.ods_bodies.specs.Held.{held_bodies, held_of};
 ghost use Rattle.ods_sources.specs.Singles.{has_way, is_once, threads_caller};
 ghost use Rattle.ods_bodies.specs.Keys.{thread_keys};
 ghost use Rattle.ods_starts.specs.Spreading.{reaches};
 
 use call_graph::{Caller, Ways, ways_of};
 use name_sets::Places;
-use ods_bodies::{ProtectedBody, add_callers, targets_of, thread_keys};
-use ods_index::Links;
+use ods_bodies::{add_callers, targets_of, thread_keys};
+use ods_index::{Links, OpCalls};
 use ods_tree::Node;
 use seq_cost::Call;
 use seq_tree::{Name, NoMemory};
@@ -118,14 +118,14 @@ impl<'a> Once<'a> {
         }
     }
 
-    /// Those of these threads, by the bodies of all protected operations.
+    /// Those of these threads, by what all bodies call.
     pub(crate) fn new(
         alloc: Global,
         links: &Links<'a>,
-        bodies: &[ProtectedBody<'a>],
+        calls: &[OpCalls<'a>],
         threads: &[&'a Node],
     ) -> Result<Once<'a>, NoMemory>
-        requires { map held_of bodies.now ≡ held_bodies (design_of links.now.design.now) }
+        requires { map calls_of calls.now ≡ design_calls (design_of links.now.design.now) }
         ensures starts { IfOk result (λ t. (n : NameTree) → is_once t n ≡ true
             → fold max 0 (map (requests_by (design_of links.now.design.now) n) (map thread_of threads.entry.now)) ≤ 1) }
         ensures sources { IfOk result (λ t. (n : NameTree) → is_once t n ≡ true
@@ -133,7 +133,7 @@ impl<'a> Once<'a> {
     {
         let targets = targets_of(alloc, threads)?;
         let mut callers = Vec::new(alloc);
-        add_callers(alloc, &targets, links, bodies, &mut callers)?;
+        add_callers(alloc, &targets, links, calls, &mut callers)?;
         add_threads_caller(alloc, &targets, links, threads, &mut callers)?;
         let ways = ways_of(alloc, callers.as_slice())?;
         Ok(Once { targets, ways })

@@ -8,14 +8,13 @@ ghost use Rattle.seq_cost.specs.Different.{call_of};
 ghost use Rattle.ods_tree.specs.Trees.{design_of};
 ghost use Rattle.design_rules.specs.Sources.{starts_within};
 ghost use Rattle.ods_index.specs.Linked.{op_of};
-ghost use Rattle.ods_sources.specs.Requested.{Knows, block_count, bodies_at, call_weight, changes, greatest_count, held_named, known_in};
-ghost use Rattle.ods_bodies.specs.Held.{held_bodies, held_of};
+ghost use Rattle.ods_sources.specs.Requested.{Knows, block_count, bodies_at, call_weight, changes, greatest_count, held_named, held_of, known_in};
+ghost use Rattle.ods_bodies.specs.Held.{held_bodies};
 ghost use Rattle.ods_sources.specs.Requesters.{HasCallers};
 
-use crate::bodies::Bodies;
+use crate::bodies::{Bodies, Body};
 use crate::callers::Callers;
 use name_sets::OpTable;
-use ods_bodies::ProtectedBody;
 use ods_index::{Links, OpView, Required};
 use seq_cost::{Call, counted_by, written_calls};
 use seq_tree::{Block, Name, NoMemory};
@@ -89,14 +88,15 @@ fn greatest_of<'a>(
     links: &Links<'a>,
     target: &Name,
     known: &OpTable<'a, u32>,
-    bodies: &[ProtectedBody<'a>],
+    bodies: &[Body<'_, 'a>],
 ) -> Result<u32, NoMemory>
     ensures { IfOk result (λ n. (inner : OpTree → ℕ) → Knows known.now inner → n
         ≡ min 2 (greatest_count (design_of links.now.design.now) target.now inner (map held_of bodies.entry.now))) }
 {
     let mut greatest: u32 = 0;
     'bodies: for body in bodies {
-        let count = block_requests(alloc, links, &body.needs, target, known, body.block)?;
+        let calls = body.calls;
+        let count = block_requests(alloc, links, &calls.needs, target, known, calls.block)?;
         greatest = greatest.max(count);
     }
     Ok(greatest)
@@ -108,7 +108,7 @@ fn count_of<'a>(
     links: &Links<'a>,
     target: &Name,
     known: &OpTable<'a, u32>,
-    bodies: &Bodies<'a>,
+    bodies: &Bodies<'_, 'a>,
     op: &OpView<'a>,
 ) -> Result<u32, NoMemory>
     ensures { IfOk result (λ n. (inner : OpTree → ℕ) → Knows known.now inner → n
@@ -126,7 +126,7 @@ fn counts_of<'a>(
     links: &Links<'a>,
     target: &Name,
     known: &OpTable<'a, u32>,
-    bodies: &Bodies<'a>,
+    bodies: &Bodies<'_, 'a>,
     ops: &[OpView<'a>],
 ) -> Result<OpTable<'a, u32>, NoMemory>
     ensures { IfOk result (λ t. (inner : OpTree → ℕ) → Knows known.now inner → (n : OpTree) → at t n
@@ -205,7 +205,7 @@ pub(crate) fn counts_within<'a>(
     alloc: Global,
     links: &Links<'a>,
     callers: &Callers<'a>,
-    bodies: &Bodies<'a>,
+    bodies: &Bodies<'_, 'a>,
     depth: usize,
     target: &Name,
 ) -> Result<OpTable<'a, u32>, NoMemory>

@@ -105,14 +105,14 @@ fn targets_fit(
 /// often than the greatest separation.
 fn starter_fits<'a>(
     alloc: Global,
-    starts: &Starts<'a>,
+    starts: &Starts<'_, 'a>,
     threads: &[&'a Node],
     greatest: u32,
     from: &'a Node,
 ) -> Result<(), Broken>
     requires { greatest ≡ greatest_separation (map (λ t. object_of t.now) threads.now) }
     ensures { Tells result (head_of
-        (filter_map (spaced (reaches (design_of starts.now.links.design.now) (object_of from.entry.now)) (object_of from.entry.now))
+        (filter_map (spaced (reaches (design_of starts.now.links.now.design.now) (object_of from.entry.now)) (object_of from.entry.now))
         (map (λ t. object_of t.now) threads.entry.now))) }
 {
     if greatest <= spacing(from) {
@@ -126,13 +126,13 @@ fn starter_fits<'a>(
 #[tactic(auto, using(ods_index::proofs::Shared::TellSteps::tell_steps))]
 fn starters_fit<'a>(
     alloc: Global,
-    starts: &Starts<'a>,
+    starts: &Starts<'_, 'a>,
     threads: &[&'a Node],
     greatest: u32,
 ) -> Result<(), Broken>
     requires { greatest ≡ greatest_separation (map (λ t. object_of t.now) threads.now) }
     ensures { Tells result (head_of
-        (flat_map (λ f. filter_map (spaced (reaches (design_of starts.now.links.design.now) f) f)
+        (flat_map (λ f. filter_map (spaced (reaches (design_of starts.now.links.now.design.now) f) f)
         (map (λ t. object_of t.now) threads.entry.now)) (map (λ t. object_of t.now) threads.entry.now))) }
 {
     'threads: for from in threads {

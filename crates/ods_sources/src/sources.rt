@@ -13,6 +13,7 @@ ghost use Rattle.design_rules.specs.Broken.{V10};
 ghost use Rattle.design_rules.specs.Lookups.{is_sporadic};
 ghost use Rattle.design_rules.specs.Rings.{terminal_ops, thread_objects};
 ghost use Rattle.design_rules.specs.Sources.{bad_sources, requests_by, source_count, starts_within};
+ghost use Rattle.ods_index.specs.Calling.{calls_of, design_calls};
 ghost use Rattle.ods_index.specs.Indexing.{IsIndex};
 ghost use Rattle.ods_index.specs.Judging.{Tells, head_of};
 ghost use Rattle.ods_index.specs.Linked.{op_of};
@@ -29,8 +30,8 @@ use crate::once::Once;
 use crate::reacher::Reacher;
 use crate::requests::{block_requests, counts_within};
 use name_sets::{OpTable, Ops, Places};
-use ods_bodies::{ProtectedBody, any_sporadic, bodies_of};
-use ods_index::{Broken, Index, Links, OpView, attribute, is_sporadic};
+use ods_bodies::any_sporadic;
+use ods_index::{Broken, Index, Links, OpCalls, OpView, attribute, is_sporadic};
 use ods_starts::{Starts, thread_starts, threads_of};
 use ods_tree::{AttrKey, Node};
 use seq_tree::{Name, NoMemory};
@@ -195,32 +196,38 @@ fn counts_fit(alloc: Global, node: &Node, sources: u32, starts: u32) -> Result<(
     })
 }
 
-/// What shows at once of who requests what, with what else it takes to count requests.
+/// What shows at once of who requests what.
 #[derive(Drop)]
-struct Shown<'a> {
-    starts: Starts<'a>,
-    listed: Vec<ProtectedBody<'a>>,
+struct Shown<'k, 'a> {
+    starts: Starts<'k, 'a>,
     threads: Vec<&'a Node>,
     reached: Places<'a>,
     once: Once<'a>,
 }
 
-impl<'a> Shown<'a> {
+impl<'k, 'a> Shown<'k, 'a> {
     /// Works out what shows at once, of these threads of a design.
-    fn new(alloc: Global, index: &Index<'a>, threads: Vec<&'a Node>) -> Result<Shown<'a>, NoMemory>
+    fn new(
+        alloc: Global,
+        index: &'k Index<'a>,
+        threads: Vec<&'a Node>,
+    ) -> Result<Shown<'k, 'a>, NoMemory>
         requires indexed { IsIndex index.now }
         requires threads { map thread_of threads.items ≡ thread_objects (design_of index.now.design.now) }
         requires few { length (objects (design_of index.now.design.now)) < 4294967296 }
-        ensures same { IfOk result (λ s. s.starts.links.design.now ≡ index.now.design.now) }
+        ensures same { IfOk result (λ s. s.starts.links.now.design.now ≡ index.entry.now.design.now) }
         ensures right { IfOk result AreShown }
     {
         let starts = Starts::new(alloc, index)?;
-        let listed = bodies_of(alloc, index.objects.as_slice())?;
         let reached = starts.reached_by_any(alloc, threads.as_slice())?;
-        let once = Once::new(alloc, &starts.links, listed.as_slice(), threads.as_slice())?;
+        let once = Once::new(
+            alloc,
+            starts.links,
+            index.calls.as_slice(),
+            threads.as_slice(),
+        )?;
         Ok(Shown {
             starts,
-            listed,
             threads,
             reached,
             once,
@@ -239,7 +246,7 @@ impl<'a> Shown<'a> {
     #[tactic(auto, using(ods_index::proofs::Shared::WalkSteps::node_steps))]
     fn is_fine(&self, node: &Node) -> bool
         requires { AreShown self.now }
-        ensures { result ≡ true → source_fault (design_of self.now.starts.links.design.now) (object_of node.now) ≡ None }
+        ensures { result ≡ true → source_fault (design_of self.now.starts.links.now.design.now) (object_of node.now) ≡ None }
     {
         let outside = outside_count(node);
         match self.reached.get(&node.name) {
@@ -252,7 +259,7 @@ impl<'a> Shown<'a> {
     #[tactic(auto, using(ods_index::proofs::Shared::WalkSteps::node_steps))]
     fn is_right(&self, node: &Node) -> bool
         requires { AreShown self.now }
-        ensures { result ≡ true → source_fault (design_of self.now.starts.links.design.now) (object_of node.now) ≡ None }
+        ensures { result ≡ true → source_fault (design_of self.now.starts.links.now.design.now) (object_of node.now) ≡ None }
     {
         if !is_sporadic(node.kind) {
             return true;
@@ -264,7 +271,7 @@ impl<'a> Shown<'a> {
     fn all_right(&self) -> bool
         requires { AreShown self.now }
         ensures { result ≡ true
-            → filter_map (source_fault (design_of self.now.starts.links.design.now)) (map thread_of self.now.threads.items) ≡ [] }
+            → filter_map (source_fault (design_of self.now.starts.links.now.design.now)) (map thread_of self.now.threads.items) ≡ [] }
     {
         'threads: for thread in &self.threads {
             if !self.is_right(thread) {
@@ -277,21 +284,26 @@ impl<'a> Shown<'a> {
 
 /// What requests are counted by.
 #[derive(Drop)]
-struct Requests<'a> {
-    shown: Shown<'a>,
-    bodies: Bodies<'a>,
+struct Requests<'k, 'a> {
+    shown: Shown<'k, 'a>,
+    bodies: Bodies<'k, 'a>,
     callers: Callers<'a>,
 }
 
-impl<'a> Requests<'a> {
-    /// Works out what requests are counted by, from what shows at once.
-    fn new(alloc: Global, shown: Shown<'a>) -> Result<Requests<'a>, NoMemory>
-        requires { AreShown shown }
-        ensures same { IfOk result (λ r. r.shown.starts.links.design.now ≡ shown.entry.starts.links.design.now) }
+impl<'k, 'a> Requests<'k, 'a> {
+    /// Works out what requests are counted by, from what shows at once and what bodies call.
+    fn new(
+        alloc: Global,
+        shown: Shown<'k, 'a>,
+        calls: &'k [OpCalls<'a>],
+    ) -> Result<Requests<'k, 'a>, NoMemory>
+        requires shown { AreShown shown }
+        requires called { map calls_of calls.now ≡ design_calls (design_of shown.starts.links.now.design.now) }
+        ensures same { IfOk result (λ r. r.shown.starts.links.now.design.now ≡ shown.entry.starts.links.now.design.now) }
         ensures right { IfOk result AreRight }
     {
-        let bodies = table_of(alloc, shown.listed.as_slice())?;
-        let callers = Callers::of_bodies(alloc, &shown.starts.links, shown.listed.as_slice())?;
+        let bodies = table_of(alloc, calls)?;
+        let callers = Callers::of_bodies(alloc, calls)?;
         Ok(Requests {
             shown,
             bodies,
@@ -303,13 +315,13 @@ impl<'a> Requests<'a> {
     fn reachers_of(&self, alloc: Global, name: &Name) -> Result<Vec<Reacher<'a>>, NoMemory>
         requires { AreRight self.now }
         ensures { IfOk result (λ v. map reacher_of v.items
-            ≡ filter (λ o. reaches (design_of self.now.shown.starts.links.design.now) o name.now)
-            (thread_objects (design_of self.now.shown.starts.links.design.now))) }
+            ≡ filter (λ o. reaches (design_of self.now.shown.starts.links.now.design.now) o name.now)
+            (thread_objects (design_of self.now.shown.starts.links.now.design.now))) }
     {
         let leading = leading_to(alloc, &self.callers, self.shown.starts.depth, name)?;
         reachers_by(
             alloc,
-            &self.shown.starts.links,
+            self.shown.starts.links,
             name,
             &leading,
             self.shown.threads.as_slice(),
@@ -322,9 +334,9 @@ impl<'a> Requests<'a> {
         requires right { AreRight self.now }
         requires sporadic { is_sporadic (object_of node.now).kind ≡ true }
         requires all { map reacher_of reachers.now
-            ≡ filter (λ o. reaches (design_of self.now.shown.starts.links.design.now) o (object_of node.now).name)
-            (thread_objects (design_of self.now.shown.starts.links.design.now)) }
-        ensures { result ≡ source_count (design_of self.now.shown.starts.links.design.now) (object_of node.now) }
+            ≡ filter (λ o. reaches (design_of self.now.shown.starts.links.now.design.now) o (object_of node.now).name)
+            (thread_objects (design_of self.now.shown.starts.links.now.design.now)) }
+        ensures { result ≡ source_count (design_of self.now.shown.starts.links.now.design.now) (object_of node.now) }
     {
         let inside = reachers.len();
         let outside = outside_count(node);
@@ -340,10 +352,10 @@ impl<'a> Requests<'a> {
     ) -> Result<u32, NoMemory>
         requires { AreRight self.now }
         ensures { IfOk result (λ n. n
-            ≡ min 2 (fold max 0 (map (requests_by (design_of self.now.shown.starts.links.design.now) name.now)
+            ≡ min 2 (fold max 0 (map (requests_by (design_of self.now.shown.starts.links.now.design.now) name.now)
             (map reacher_of reachers.entry.now)))) }
     {
-        let links = &self.shown.starts.links;
+        let links = self.shown.starts.links;
         let known = counts_within(
             alloc,
             links,
@@ -360,7 +372,7 @@ impl<'a> Requests<'a> {
     fn counted_fits(&self, alloc: Global, node: &Node) -> Result<(), Broken>
         requires right { AreRight self.now }
         requires sporadic { is_sporadic (object_of node.now).kind ≡ true }
-        ensures { Tells result (source_fault (design_of self.now.shown.starts.links.design.now) (object_of node.now)) }
+        ensures { Tells result (source_fault (design_of self.now.shown.starts.links.now.design.now) (object_of node.now)) }
     {
         let reachers = self.reachers_of(alloc, &node.name)?;
         let sources = self.source_count(node, reachers.as_slice());
@@ -372,7 +384,7 @@ impl<'a> Requests<'a> {
     #[tactic(auto, using(ods_index::proofs::Shared::WalkSteps::node_steps))]
     fn target_fits(&self, alloc: Global, node: &Node) -> Result<(), Broken>
         requires { AreRight self.now }
-        ensures { Tells result (source_fault (design_of self.now.shown.starts.links.design.now) (object_of node.now)) }
+        ensures { Tells result (source_fault (design_of self.now.shown.starts.links.now.design.now) (object_of node.now)) }
     {
         if !is_sporadic(node.kind) {
             return Ok(());
@@ -387,7 +399,8 @@ impl<'a> Requests<'a> {
     #[tactic(auto, using(ods_index::proofs::Shared::TellSteps::tell_steps))]
     fn targets_fit(&self, alloc: Global, threads: &[&'a Node]) -> Result<(), Broken>
         requires { AreRight self.now }
-        ensures { Tells result (head_of (filter_map (source_fault (design_of self.now.shown.starts.links.design.now)) (map thread_of threads.now))) }
+        ensures { Tells result
+            (head_of (filter_map (source_fault (design_of self.now.shown.starts.links.now.design.now)) (map thread_of threads.now))) }
     {
         'threads: for thread in threads {
             self.target_fits(alloc, thread)?;
@@ -410,6 +423,6 @@ pub fn first_bad_source(alloc: Global, index: &Index<'_>) -> Result<(), Broken>
     if shown.all_right() {
         return Ok(());
     }
-    let requests = Requests::new(alloc, shown)?;
+    let requests = Requests::new(alloc, shown, index.calls.as_slice())?;
     requests.targets_fit(alloc, requests.shown.threads.as_slice())
 }

@@ -2,9 +2,8 @@ use Rattle.std.proofs.Common.{◌≡◌, ◌∷◌, ◌+◌, [], List, fold, max
 use Rattle.std.proofs.lemmas.List.{drop_all}
 use Rattle.seq_tree.proofs.Shared.LoopSteps.{drop_step}
 use Rattle.ods_tree.specs.Trees.{design_of}
-use Rattle.ods_sources.specs.Requested.{block_count, greatest_count, held_count}
-use Rattle.ods_bodies.specs.Held.{held_of}
-use Rattle.ods_bodies.specs.declared.held.ProtectedBody.{ProtectedBody}
+use Rattle.ods_sources.specs.Requested.{block_count, greatest_count, held_count, held_of}
+use Rattle.ods_sources.specs.declared.bodies.Body.{Body}
 use Rattle.ods_index.specs.declared.required.Required.{Required}
 use Rattle.ods_sources.proofs.RequestLaws.{greatest-more, greatest-all}
 use Rattle.ods_sources.proofs.requests.greatest_of.Goals as goal
@@ -24,7 +23,7 @@ bodies-preserved c = λ inner knows.
     greatest-more count (held_of c.body-item.result) rest c.bodies.greatest c.in_ok-count.count c.max-greatest.result
     (min 2 (greatest_count x c.args.target.now inner (map held_of bodies)))
     c.max-greatest.ensures counted was.0
-    (ap (λ (bs : List ProtectedBody). min 2 (fold max c.bodies.greatest (map count (map held_of bs)))) (sym step) ∙ was.1)
+    (ap (λ (bs : List Body). min 2 (fold max c.bodies.greatest (map count (map held_of bs)))) (sym step) ∙ was.1)
 
 pub returns : goal.returns
 returns c = λ inner knows.
@@ -32,4 +31,4 @@ returns c = λ inner knows.
     let left : drop c.bodies.body-index c.args.bodies.now ≡ [] = drop_all c.bodies.body-index c.args.bodies.now c.bodies-test.false in
     let was = c.bodies.invariant inner knows in
     greatest-all c.bodies.greatest _ was.0
-    (ap (λ (bs : List ProtectedBody). min 2 (fold max c.bodies.greatest (map count (map held_of bs)))) (sym left) ∙ was.1)
+    (ap (λ (bs : List Body). min 2 (fold max c.bodies.greatest (map count (map held_of bs)))) (sym left) ∙ was.1)

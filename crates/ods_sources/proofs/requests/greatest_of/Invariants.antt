@@ -1,8 +1,7 @@
 use Rattle.std.proofs.Common.{◌≡◌, ◌≤◌, ℕ, fold, max, min, map, drop}
 use Rattle.seq_tree.specs.declared.tree.OpName.{OpName}
 use Rattle.ods_tree.specs.Trees.{design_of}
-use Rattle.ods_sources.specs.Requested.{Knows, greatest_count, held_count}
-use Rattle.ods_bodies.specs.Held.{held_of}
+use Rattle.ods_sources.specs.Requested.{Knows, greatest_count, held_count, held_of}
 use Rattle.ods_sources.proofs.requests.greatest_of.Given as goal
 
 -- the greatest so far, with those of the bodies that are left, is that of all

@@ -40,7 +40,7 @@ returns c =
     ap (map (λ (t : Bor Node). object_of t.now)) c.as_slice-threads.ensures.value ∙ c.in_ok-nodes.ensures
     ∙ ap (λ ss. map (λ s. s.own) (filter (λ s. has_thread s.own.kind) (filter is_terminal ss)))
     (ap (map standing_of) c.as_slice.ensures.value ∙ c.requires.walked) in
-    let all : flat_map (λ f. filter_map (spaced (reaches (design_of c.in_ok-starts.starts.links.design.now) f) f) threads) threads
+    let all : flat_map (λ f. filter_map (spaced (reaches (design_of c.in_ok-starts.starts.links.now.design.now) f) f) threads) threads
     ≡ bad_separations y =
     ap (λ d. flat_map (λ f. filter_map (spaced (reaches (design_of d) f) f) threads) threads) c.in_ok-starts.ensures
     ∙ ap (λ (ts : List Object). flat_map (λ f. filter_map (spaced (reaches y f) f) ts) ts) same in

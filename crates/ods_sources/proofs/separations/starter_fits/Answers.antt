@@ -11,7 +11,7 @@ use Rattle.ods_sources.proofs.separations.starter_fits.Goals as goal
 
 pub returns : goal.returns
 returns c =
-    let x = design_of c.args.starts.now.links.design.now in
+    let x = design_of c.args.starts.now.links.now.design.now in
     let from = object_of c.args.from.now in
     let reached = c.in_ok-reached.reached in
     subst (λ w. Tells c.targets_fit.result (head_of w))
@@ -20,7 +20,7 @@ returns c =
 
 pub returns-then-greatest-spacing : goal.returns-then-greatest-spacing
 returns-then-greatest-spacing c =
-    let x = design_of c.args.starts.now.links.design.now in
+    let x = design_of c.args.starts.now.links.now.design.now in
     let from = object_of c.args.from.now in
     let threads = map (λ t. object_of t.now) c.args.threads.now in
     let far : c.args.greatest ≤ c.spacing.result = search rules in

@@ -14,7 +14,7 @@ use Rattle.ods_sources.proofs.separations.starters_fit.Goals as goal
 
 pub returns-in_err-starter_fits : goal.returns-in_err-starter_fits
 returns-in_err-starter_fits c =
-    let x = design_of c.args.starts.now.links.design.now in
+    let x = design_of c.args.starts.now.links.now.design.now in
     let threads = c.args.threads.now in
     let told : Object → List Broken = λ f. filter_map (spaced (reaches x f) f) (map (λ t. object_of t.now) threads) in
     let e = c.in_err-starter_fits.field-0.0 in

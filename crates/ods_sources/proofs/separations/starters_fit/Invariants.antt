@@ -10,7 +10,7 @@ use Rattle.ods_sources.proofs.separations.starters_fit.Given as goal
 -- it is up to the threads that are left
 abbrev pub invariant-threads : goal.invariant-threads
 invariant-threads l =
-    head_of (flat_map (λ f. filter_map (spaced (reaches (design_of l.starts.links.design.now) f) f) (map (λ t. object_of t.now) l.threads))
+    head_of (flat_map (λ f. filter_map (spaced (reaches (design_of l.starts.links.now.design.now) f) f) (map (λ t. object_of t.now) l.threads))
     (map (λ t. object_of t.now) (drop l.from-index l.threads)))
-    ≡ head_of (flat_map (λ f. filter_map (spaced (reaches (design_of l.starts.links.design.now) f) f) (map (λ t. object_of t.now) l.threads))
+    ≡ head_of (flat_map (λ f. filter_map (spaced (reaches (design_of l.starts.links.now.design.now) f) f) (map (λ t. object_of t.now) l.threads))
     (map (λ t. object_of t.now) l.threads))

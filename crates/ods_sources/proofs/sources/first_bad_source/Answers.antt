@@ -8,7 +8,9 @@ use Rattle.ods_tree.specs.declared.design.Node.{Node}
 use Rattle.design_rules.specs.Lookups.{has_thread}
 use Rattle.design_rules.specs.Rings.{thread_objects}
 use Rattle.design_rules.specs.Sources.{bad_sources}
+use Rattle.ods_index.specs.Calling.{calls_of, design_calls}
 use Rattle.ods_index.specs.Judging.{Tells, head_of}
+use Rattle.ods_index.specs.declared.calls.OpCalls.{OpCalls}
 use Rattle.ods_sources.specs.Reaching.{thread_of}
 use Rattle.ods_sources.specs.Requested.{source_fault}
 use Rattle.ods_index.specs.Walking.{standing_of}
@@ -30,7 +32,7 @@ returns-then-not-any_sporadic c =
 
 pub returns-then-all_right : goal.returns-then-all_right
 returns-then-all_right c =
-    let x = design_of c.in_ok-shown.shown.starts.links.design.now in
+    let x = design_of c.in_ok-shown.shown.starts.links.now.design.now in
     let y = design_of c.args.index.now.design.now in
     let yes : c.all_right.result ≡ true = search rules in
     let all : filter_map (source_fault x) (map thread_of c.in_ok-shown.shown.threads.items) ≡ bad_sources y =
@@ -38,13 +40,18 @@ returns-then-all_right c =
     ∙ ap (λ (d : code.Design). filter_map (source_fault (design_of d)) (thread_objects (design_of d))) c.in_ok-shown.ensures.same in
     ap head_of (sym all ∙ c.all_right.ensures yes)
 
+pub new-requires-2-clause-called : goal.new-requires-2-clause-called
+new-requires-2-clause-called c =
+    ap (λ (bs : List OpCalls). map calls_of bs) c.as_slice-3.ensures.value ∙ c.requires.indexed.called
+    ∙ ap (λ (d : code.Design). design_calls (design_of d)) (sym c.in_ok-shown.ensures.same)
+
 pub returns : goal.returns
 returns c =
-    let x = design_of c.in_ok-requests.requests.shown.starts.links.design.now in
+    let x = design_of c.in_ok-requests.requests.shown.starts.links.now.design.now in
     let y = design_of c.args.index.now.design.now in
     let same = c.in_ok-requests.ensures.same ∙ c.in_ok-shown.ensures.same in
-    let all : filter_map (source_fault x) (map thread_of c.as_slice-3.result.now) ≡ bad_sources y =
-    ap (λ (ts : List (Bor Node)). filter_map (source_fault x) (map thread_of ts)) c.as_slice-3.ensures.value
+    let all : filter_map (source_fault x) (map thread_of c.as_slice-4.result.now) ≡ bad_sources y =
+    ap (λ (ts : List (Bor Node)). filter_map (source_fault x) (map thread_of ts)) c.as_slice-4.ensures.value
     ∙ ap (λ (os : List Object). filter_map (source_fault x) os) c.in_ok-requests.ensures.right.shown.threads
     ∙ ap (λ (d : code.Design). filter_map (source_fault (design_of d)) (thread_objects (design_of d))) same in
     subst (λ w. Tells c.targets_fit.result (head_of w)) all c.targets_fit.ensures

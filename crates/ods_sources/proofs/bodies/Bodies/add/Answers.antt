@@ -1,17 +1,17 @@
-use Rattle.std.proofs.Common.{◌∷◌, [], map, ap, ◌∙◌}
+use Rattle.std.proofs.Common.{◌∷◌, [], map, ap}
 use Rattle.std.proofs.lemmas.Result.{on_ok_weaker}
 use Rattle.seq_tree.specs.Calls.{same_op}
 use Rattle.name_sets.specs.Tables.{at, listed}
-use Rattle.ods_sources.specs.Requested.{bodies_at}
-use Rattle.ods_bodies.specs.Held.{held_of}
+use Rattle.ods_index.specs.Calling.{calls_of}
+use Rattle.ods_sources.specs.Requested.{bodies_at, held_of}
 use Rattle.ods_starts.proofs.Shared.KeptCalls.{added}
 use Rattle.ods_sources.proofs.bodies.Bodies.add.Goals as goal
 
 pub returns : goal.returns
 unfolding bodies_at
 returns c =
+    let own = calls_of c.args.calls.now in
     on_ok_weaker c.extend.result
-    (λ h n. added held_of (same_op (held_of c.args.body.now).name n) (listed (at c.extend.new.self n)) (listed (at c.args.self.now.bodies n))
-    c.in_ok-more.more.items (held_of c.args.body.now ∷ []) (h n)
-    (ap (map held_of) c.in_ok-more.ensures.items ∙ ap (λ z. z ∷ []) c.in_ok-again.ensures))
+    (λ h n. added held_of (same_op own.name n) (listed (at c.extend.new.self n)) (listed (at c.args.self.now.bodies n))
+    c.in_ok-more.more.items (own ∷ []) (h n) (ap (map held_of) c.in_ok-more.ensures.items))
     c.extend.ensures.added

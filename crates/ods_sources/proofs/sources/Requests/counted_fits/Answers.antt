@@ -12,13 +12,13 @@ use Rattle.ods_sources.proofs.sources.Requests.counted_fits.Goals as goal
 
 pub source_count-sources-requires-clause-all : goal.source_count-sources-requires-clause-all
 source_count-sources-requires-clause-all c =
-    let x = design_of c.args.self.now.shown.starts.links.design.now in
+    let x = design_of c.args.self.now.shown.starts.links.now.design.now in
     ap (λ (rs : List Reacher). map reacher_of rs) c.as_slice.ensures.value ∙ c.in_ok-reachers.ensures
     ∙ ap (λ n. filter (λ o. reaches x o n) (thread_objects x)) (own-name c.args.node.now)
 
 pub returns : goal.returns
 returns c =
-    let x = design_of c.args.self.now.shown.starts.links.design.now in
+    let x = design_of c.args.self.now.shown.starts.links.now.design.now in
     let o = object_of c.args.node.now in
     let name = (out-Node c.args.node.now).name in
     let all : map reacher_of c.as_slice-2.result.now ≡ filter (λ f. reaches x f name) (thread_objects x) =

@@ -16,7 +16,7 @@ use Rattle.ods_sources.proofs.sources.Requests.reachers_of.Goals as goal
 pub returns : goal.returns
 returns c =
     let self = c.args.self.now in
-    let x = design_of self.shown.starts.links.design.now in
+    let x = design_of self.shown.starts.links.now.design.now in
     let name = c.args.name.now in
     let leads = has_op c.in_ok-leading.leading in
     let threads : map thread_of c.as_slice.result.now ≡ thread_objects x =

@@ -11,7 +11,7 @@ use Rattle.ods_sources.proofs.sources.Requests.source_count.Goals as goal
 
 pub sum_of-requires : goal.sum_of-requires
 sum_of-requires c =
-    let x = design_of c.args.self.now.shown.starts.links.design.now in
+    let x = design_of c.args.self.now.shown.starts.links.now.design.now in
     let o = object_of c.args.node.now in
     let all : length c.args.reachers.now ≡ length (filter (λ f. reaches x f o.name) (thread_objects x)) =
     sym (length-map c.args.reachers.now reacher_of) ∙ ap (λ (os : List Object). length os) c.requires.all in
@@ -21,7 +21,7 @@ sum_of-requires c =
 
 pub returns : goal.returns
 returns c =
-    let x = design_of c.args.self.now.shown.starts.links.design.now in
+    let x = design_of c.args.self.now.shown.starts.links.now.design.now in
     let o = object_of c.args.node.now in
     let all : length c.args.reachers.now ≡ length (filter (λ f. can_start x f o) (thread_objects x)) =
     sym (length-map c.args.reachers.now reacher_of) ∙ ap (λ (os : List Object). length os) c.requires.all

@@ -7,7 +7,7 @@ use Rattle.ods_sources.proofs.sources.Requests.targets_fit.Goals as goal
 
 pub threads-preserved : goal.threads-preserved
 threads-preserved c =
-    passed_step (source_fault (design_of c.args.self.now.shown.starts.links.design.now)) thread_of
+    passed_step (source_fault (design_of c.args.self.now.shown.starts.links.now.design.now)) thread_of
     c.args.threads.now c.threads.thread-index c.thread-item.result _ c.threads-test.true c.thread-item.is c.in_ok-target_fits.ensures
     c.threads.invariant
 
@@ -15,6 +15,6 @@ pub returns-in_err-target_fits : goal.returns-in_err-target_fits
 returns-in_err-target_fits c =
     let e = c.in_err-target_fits.field-0.0 in
     let is : c.from_residual.result ≡ Err e = search rules in
-    rw is (told_step (source_fault (design_of c.args.self.now.shown.starts.links.design.now)) thread_of
+    rw is (told_step (source_fault (design_of c.args.self.now.shown.starts.links.now.design.now)) thread_of
     c.args.threads.now c.threads.thread-index c.thread-item.result _ e c.threads-test.true c.thread-item.is c.threads.invariant
     c.in_err-target_fits.ensures)

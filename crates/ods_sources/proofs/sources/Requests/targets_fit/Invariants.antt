@@ -9,5 +9,5 @@ use Rattle.ods_sources.proofs.sources.Requests.targets_fit.Given as goal
 -- it is up to the threads that are left
 abbrev pub invariant-threads : goal.invariant-threads
 invariant-threads l =
-    head_of (filter_map (source_fault (design_of l.self.shown.starts.links.design.now)) (map thread_of (drop l.thread-index l.threads)))
-    ≡ head_of (filter_map (source_fault (design_of l.self.shown.starts.links.design.now)) (map thread_of l.threads))
+    head_of (filter_map (source_fault (design_of l.self.shown.starts.links.now.design.now)) (map thread_of (drop l.thread-index l.threads)))
+    ≡ head_of (filter_map (source_fault (design_of l.self.shown.starts.links.now.design.now)) (map thread_of l.threads))

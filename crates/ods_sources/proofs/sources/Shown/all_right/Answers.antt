@@ -10,7 +10,7 @@ use Rattle.ods_sources.proofs.sources.Shown.all_right.Goals as goal
 
 pub threads-preserved : goal.threads-preserved
 threads-preserved c =
-    let x = design_of c.args.self.now.starts.links.design.now in
+    let x = design_of c.args.self.now.starts.links.now.design.now in
     let yes : c.is_right.result ≡ true = search rules in
     quiet_step (source_fault x) thread_of c.args.self.now.threads.items c.threads.thread-index c.thread-item.result _
     (rw c.deref-thread-items.ensures.value at c.threads-test.true)
@@ -18,7 +18,7 @@ threads-preserved c =
 
 pub returns : goal.returns
 returns c = λ shown.
-    let x = design_of c.args.self.now.starts.links.design.now in
+    let x = design_of c.args.self.now.starts.links.now.design.now in
     let threads = c.args.self.now.threads.items in
     let left : drop c.threads.thread-index threads ≡ [] = drop_all c.threads.thread-index threads
     (rw c.deref-thread-items.ensures.value at c.threads-test.false) in

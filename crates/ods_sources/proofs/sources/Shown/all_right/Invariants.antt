@@ -8,5 +8,5 @@ use Rattle.ods_sources.proofs.sources.Shown.all_right.Given as goal
 -- it is up to the threads that are left
 abbrev pub invariant-threads : goal.invariant-threads
 invariant-threads l =
-    filter_map (source_fault (design_of l.self.starts.links.design.now)) (map thread_of (drop l.thread-index l.self.threads.items))
-    ≡ filter_map (source_fault (design_of l.self.starts.links.design.now)) (map thread_of l.self.threads.items)
+    filter_map (source_fault (design_of l.self.starts.links.now.design.now)) (map thread_of (drop l.thread-index l.self.threads.items))
+    ≡ filter_map (source_fault (design_of l.self.starts.links.now.design.now)) (map thread_of l.self.threads.items)

@@ -15,7 +15,7 @@ use Rattle.ods_sources.proofs.sources.Shown.is_fine.Goals as goal
 pub returns-in-None : goal.returns-in-None
 returns-in-None c shown =
     let self = c.args.self.now in
-    let x = design_of self.starts.links.design.now in
+    let x = design_of self.starts.links.now.design.now in
     let o = object_of c.args.node.now in
     let out = c.outside_count-outside.result in
     let none : list_any (λ f. reaches x f o.name) (thread_objects x) ≡ false =
@@ -30,7 +30,7 @@ returns-in-None c shown =
 pub returns-in-Some : goal.returns-in-Some
 returns-in-Some c shown =
     let self = c.args.self.now in
-    let x = design_of self.starts.links.design.now in
+    let x = design_of self.starts.links.now.design.now in
     let o = object_of c.args.node.now in
     let out = c.outside_count-outside.result in
     let some : list_any (λ f. reaches x f o.name) (thread_objects x) ≡ true =

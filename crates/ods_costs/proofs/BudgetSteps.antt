@@ -1,5 +1,5 @@
 -- Costs that are cut against budgets and limits, and the threads over their budgets object by object.
-use Rattle.std.proofs.Common.{◌≡◌, ℕ, ◌+◌, ◌≤◌, Bool, true, false, ◌&&◌, List, [], ◌∷◌, ◌++◌, Some, None, map, filter, flat_map, arith}
+use Rattle.std.proofs.Common.{◌≡◌, ℕ, ◌+◌, ◌≤◌, Bool, true, false, List, [], ◌∷◌, ◌++◌, Some, None, map, filter, flat_map, arith}
 use Rattle.std.proofs.Common.{refl, ap, sym, ◌∙◌, ◌⊎◌, inl, inr}
 use Rattle.std.specs.Prelude.{min, nat_le, nat_lt, filter_map, option_to_list}
 use Rattle.std.proofs.Math.Nat.{min-eq_left, min-eq_right}

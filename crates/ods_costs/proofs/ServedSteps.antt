@@ -10,7 +10,6 @@ use Rattle.ods_tree.specs.Flattening.{body_named, flat, operation_by, operations
 use Rattle.ods_tree.specs.Flattening.{is_protected, request_op}
 use Rattle.ods_tree.specs.Services.{Service, Plain, Protected, plain_services, protected_services, requests}
 use Rattle.ods_tree.specs.Flats.{Library, Guarded, Thread}
-use Rattle.ods_tree.specs.Links.{resolved}
 use Rattle.ods_tree.specs.Walk.{Standing, is_terminal, objects}
 use Rattle.ods_tree.specs.declared.design.Kind.{Kind}
 use Rattle.ods_tree.specs.declared.design.Kind.TheVariants as kind

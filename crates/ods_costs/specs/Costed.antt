@@ -1,6 +1,6 @@
 -- What the costs of a design are worked out from: the operations that may be called, with their calls by what they mean.
 -- They go in the order of the flat design.
-use Rattle.std.specs.Prelude.{◌++◌, flat_map, ◌≡◌, ℕ, Bool, ◌&&◌, false, List, [], Option, Some, None, option_map}
+use Rattle.std.specs.Prelude.{◌++◌, flat_map, ◌≡◌, ℕ, Bool, ◌&&◌, false, List, [], Option, option_map}
 use Rattle.std.specs.Prelude.{option_and_then, option_to_list, min, map, filter, filter_map, if◌then◌else◌}
 use Rattle.seq_tree.specs.Names.{Name}
 use Rattle.seq_tree.specs.Statements.{Statements}

@@ -5,4 +5,4 @@ use Rattle.ods_costs.specs.declared.costs.Priced.{Priced}
 
 -- the design that prices are of
 abbrev pub priced_design : Priced → Design
-priced_design p = design_of p.links.design.now
+priced_design p = design_of p.links.now.design.now

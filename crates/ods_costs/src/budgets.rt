@@ -56,11 +56,11 @@ fn is_over(budget: u32, cost: u64) -> bool
 /// Tells a thread whose activation costs more than its budget, and not too much.
 fn thread_fits<'a>(
     alloc: Global,
-    priced: &Priced<'a>,
+    priced: &Priced<'_, 'a>,
     node: &'a Node,
     block: &'a Block,
 ) -> Result<(), Broken>
-    ensures { Tells result (over_budget (design_of priced.now.links.design.now) (object_of node.entry.now) (block_of block.entry.now)) }
+    ensures { Tells result (over_budget (design_of priced.now.links.now.design.now) (object_of node.entry.now) (block_of block.entry.now)) }
 {
     let body = priced.body(block);
     let cost = u64::from(body) + u64::from(priced.links.design.costs.finish);
@@ -78,10 +78,10 @@ fn thread_fits<'a>(
 /// Tells an object whose thread, if it has one, costs more than its budget.
 fn object_fits<'a>(
     alloc: Global,
-    priced: &Priced<'a>,
+    priced: &Priced<'_, 'a>,
     standing: &Standing<'a>,
 ) -> Result<(), Broken>
-    ensures { Tells result (head_of (over_budgets (design_of priced.now.links.design.now) (standing_of standing.entry.now))) }
+    ensures { Tells result (head_of (over_budgets (design_of priced.now.links.now.design.now) (standing_of standing.entry.now))) }
 {
     let node = standing.node;
     if !is_terminal(node) || !has_thread(node.kind) {
@@ -97,7 +97,7 @@ fn object_fits<'a>(
 pub fn first_bad_budget<'a>(
     alloc: Global,
     index: &Index<'a>,
-    priced: &Priced<'a>,
+    priced: &Priced<'_, 'a>,
 ) -> Result<(), Broken>
     requires indexed { IsIndex index.now }
     requires same { priced_design priced.now ≡ design_of index.now.design.now }

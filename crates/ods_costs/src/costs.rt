@@ -37,31 +37,30 @@ impl CallPlaces for Meant<'_, '_> {
 
 /// What the blocks of a design cost, worked out once for all rules that ask for it.
 #[derive(Drop)]
-pub struct Priced<'a> {
-    pub(crate) links: Links<'a>,
+pub struct Priced<'k, 'a> {
+    pub(crate) links: &'k Links<'a>,
     places: OpTable<'a, usize>,
     prices: Vec<u32>,
-    ghost agrees: { ArePrices (design_of links.design.now) (at places) prices.items },
+    ghost agrees: { ArePrices (design_of links.now.design.now) (at places) prices.items },
 }
 
-impl<'a> Priced<'a> {
+impl<'k, 'a> Priced<'k, 'a> {
     ghost use Rattle.ods_costs.specs.Pricing.{priced_design};
 
     /// Works out what the calls of a design count. The time grows as its bodies do, unless there is a ring of calls. `NoMemory` comes for want
     /// of memory alone.
-    pub fn new(alloc: Global, index: &Index<'a>) -> Result<Priced<'a>, NoMemory>
+    pub fn new(alloc: Global, index: &'k Index<'a>) -> Result<Priced<'k, 'a>, NoMemory>
         requires { IsIndex index.now }
-        ensures { IfOk result (λ p. priced_design p ≡ design_of index.now.design.now) }
+        ensures { IfOk result (λ p. priced_design p ≡ design_of index.entry.now.design.now) }
     {
         let services = services_of(alloc, index.objects.as_slice())?;
-        let links = Links::new(alloc, index.design)?;
         let places = places_of(alloc, services.as_slice())?;
-        let design = links.design;
+        let links = &index.links;
         let meant = Meant {
-            links: &links,
+            links,
             places: &places,
         };
-        let priced = prices_of(alloc, &design.costs, &meant, services.as_slice())?;
+        let priced = prices_of(alloc, &links.design.costs, &meant, services.as_slice())?;
         Ok(Priced {
             links,
             places,
@@ -71,10 +70,10 @@ impl<'a> Priced<'a> {
 
     /// What a block of the design costs, in ticks, or 1,000,000,001 where it is more.
     pub(crate) fn body(&self, block: &Block) -> u32
-        ensures { result ≡ min cap (body_cost (design_of self.now.links.design.now) (block_of block.now)) }
+        ensures { result ≡ min cap (body_cost (design_of self.now.links.now.design.now) (block_of block.now)) }
     {
         let meant = Meant {
-            links: &self.links,
+            links: self.links,
             places: &self.places,
         };
         ticks_of(

@@ -100,11 +100,11 @@ fn count_fits(count: usize) -> Result<(), Broken>
 /// Tells the body of an operation that is too dear.
 fn body_fits<'a>(
     alloc: Global,
-    priced: &Priced<'a>,
+    priced: &Priced<'_, 'a>,
     node: &'a Node,
     body: &'a OpBody,
 ) -> Result<(), Broken>
-    ensures { Tells result (dear_body (design_of priced.now.links.design.now) (object_of node.entry.now) (body_of body.entry.now)) }
+    ensures { Tells result (dear_body (design_of priced.now.links.now.design.now) (object_of node.entry.now) (body_of body.entry.now)) }
 {
     let cost = priced.body(&body.block);
     if u64::from(cost) > GREATEST {
@@ -119,11 +119,11 @@ fn body_fits<'a>(
 /// Tells a thread that is too dear.
 fn activation_fits<'a>(
     alloc: Global,
-    priced: &Priced<'a>,
+    priced: &Priced<'_, 'a>,
     node: &'a Node,
     block: &'a Block,
 ) -> Result<(), Broken>
-    ensures { Tells result (dear_thread (design_of priced.now.links.design.now) (object_of node.entry.now) (block_of block.entry.now)) }
+    ensures { Tells result (dear_thread (design_of priced.now.links.now.design.now) (object_of node.entry.now) (block_of block.entry.now)) }
 {
     let cost = u64::from(priced.body(block)) + u64::from(priced.links.design.costs.finish);
     if cost > GREATEST {
@@ -139,12 +139,12 @@ fn activation_fits<'a>(
 #[tactic(auto, using(ods_index::proofs::Shared::TellSteps::tell_steps))]
 fn bodies_fit<'a>(
     alloc: Global,
-    priced: &Priced<'a>,
+    priced: &Priced<'_, 'a>,
     node: &'a Node,
     bodies: &'a [OpBody],
 ) -> Result<(), Broken>
     ensures { Tells result (head_of
-        (flat_map (dear_bodies (design_of priced.now.links.design.now) (object_of node.entry.now)) (map body_of bodies.entry.now))) }
+        (flat_map (dear_bodies (design_of priced.now.links.now.design.now) (object_of node.entry.now)) (map body_of bodies.entry.now))) }
 {
     'bodies: for body in bodies {
         body_fits(alloc, priced, node, body)?;
@@ -154,8 +154,12 @@ fn bodies_fit<'a>(
 
 /// Tells the first part of an object that is too dear: the bodies of its operations, then its thread.
 #[tactic(auto, using(ods_index::proofs::Shared::TellSteps::tell_steps))]
-fn parts_fit<'a>(alloc: Global, priced: &Priced<'a>, standing: &Standing<'a>) -> Result<(), Broken>
-    ensures { Tells result (head_of (dear_parts (design_of priced.now.links.design.now) (standing_of standing.entry.now))) }
+fn parts_fit<'a>(
+    alloc: Global,
+    priced: &Priced<'_, 'a>,
+    standing: &Standing<'a>,
+) -> Result<(), Broken>
+    ensures { Tells result (head_of (dear_parts (design_of priced.now.links.now.design.now) (standing_of standing.entry.now))) }
 {
     let node = standing.node;
     if !is_terminal(node) {
@@ -172,10 +176,10 @@ fn parts_fit<'a>(alloc: Global, priced: &Priced<'a>, standing: &Standing<'a>) ->
 #[tactic(auto, using(ods_index::proofs::Shared::TellSteps::tell_steps))]
 pub(crate) fn costs_fit<'a>(
     alloc: Global,
-    priced: &Priced<'a>,
+    priced: &Priced<'_, 'a>,
     objects: &[Standing<'a>],
 ) -> Result<(), Broken>
-    ensures { Tells result (head_of (flat_map (dear_parts (design_of priced.now.links.design.now)) (map standing_of objects.entry.now))) }
+    ensures { Tells result (head_of (flat_map (dear_parts (design_of priced.now.links.now.design.now)) (map standing_of objects.entry.now))) }
 {
     'objects: for standing in objects {
         parts_fit(alloc, priced, standing)?;
@@ -189,7 +193,7 @@ pub(crate) fn costs_fit<'a>(
 pub fn first_bad_size<'a>(
     alloc: Global,
     index: &Index<'a>,
-    priced: &Priced<'a>,
+    priced: &Priced<'_, 'a>,
 ) -> Result<(), Broken>
     requires indexed { IsIndex index.now }
     requires few { length (objects (design_of index.now.design.now)) < 4294967296 }

@@ -14,7 +14,7 @@ use Rattle.ods_costs.proofs.budgets.first_bad_budget.Goals as goal
 
 pub returns-in_err-object_fits : goal.returns-in_err-object_fits
 returns-in_err-object_fits c =
-    let x = design_of c.args.priced.now.links.design.now in
+    let x = design_of c.args.priced.now.links.now.design.now in
     let y = design_of c.args.index.now.design.now in
     let items = c.deref-standing-items.result.now in
     let all : head_of (bad_budgets y) ≡ head_of (flat_map (over_budgets x) (map standing_of c.args.index.now.objects.items)) =
@@ -34,7 +34,7 @@ returns-in_err-object_fits c =
 
 pub returns : goal.returns
 returns c =
-    let x = design_of c.args.priced.now.links.design.now in
+    let x = design_of c.args.priced.now.links.now.design.now in
     let y = design_of c.args.index.now.design.now in
     let items = c.deref-standing-items.result.now in
     let all : head_of (bad_budgets y) ≡ head_of (flat_map (over_budgets x) (map standing_of c.args.index.now.objects.items)) =

@@ -8,5 +8,5 @@ use Rattle.ods_costs.proofs.budgets.first_bad_budget.Given as goal
 -- it is up to the objects that are left
 abbrev pub invariant-objects : goal.invariant-objects
 invariant-objects l =
-    head_of (flat_map (over_budgets (design_of l.priced.links.design.now)) (map standing_of (drop l.standing-index l.standing-items)))
-    ≡ head_of (flat_map (over_budgets (design_of l.priced.links.design.now)) (map standing_of l.index.objects.items))
+    head_of (flat_map (over_budgets (design_of l.priced.links.now.design.now)) (map standing_of (drop l.standing-index l.standing-items)))
+    ≡ head_of (flat_map (over_budgets (design_of l.priced.links.now.design.now)) (map standing_of l.index.objects.items))

@@ -8,5 +8,5 @@ use Rattle.ods_costs.proofs.sizes.bodies_fit.Given as goal
 -- it is up to the bodies that are left
 abbrev pub invariant-bodies : goal.invariant-bodies
 invariant-bodies l =
-    head_of (flat_map (dear_bodies (design_of l.priced.links.design.now) (object_of l.node)) (map body_of (drop l.body-index l.bodies)))
-    ≡ head_of (flat_map (dear_bodies (design_of l.priced.links.design.now) (object_of l.node)) (map body_of l.bodies))
+    head_of (flat_map (dear_bodies (design_of l.priced.links.now.design.now) (object_of l.node)) (map body_of (drop l.body-index l.bodies)))
+    ≡ head_of (flat_map (dear_bodies (design_of l.priced.links.now.design.now) (object_of l.node)) (map body_of l.bodies))

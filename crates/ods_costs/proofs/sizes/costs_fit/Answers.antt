@@ -10,7 +10,7 @@ use Rattle.ods_costs.proofs.sizes.costs_fit.Goals as goal
 
 pub returns-in_err-parts_fit : goal.returns-in_err-parts_fit
 returns-in_err-parts_fit c =
-    let x = design_of c.args.priced.now.links.design.now in
+    let x = design_of c.args.priced.now.links.now.design.now in
     let items = c.args.objects.now in
     let e = c.in_err-parts_fit.field-0.0 in
     let is : c.from_residual.result ≡ Err e = search rules in
@@ -26,7 +26,7 @@ returns-in_err-parts_fit c =
 
 pub objects-preserved : goal.objects-preserved
 objects-preserved c =
-    let x = design_of c.args.priced.now.links.design.now in
+    let x = design_of c.args.priced.now.links.now.design.now in
     let items = c.args.objects.now in
     let later = flat_map (dear_parts x) (map standing_of (drop (c.objects.standing-index + 1) items)) in
     let own = dear_parts x (standing_of c.standing-item.result) in

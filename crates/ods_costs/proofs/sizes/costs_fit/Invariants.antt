@@ -8,5 +8,5 @@ use Rattle.ods_costs.proofs.sizes.costs_fit.Given as goal
 -- it is up to the objects that are left
 abbrev pub invariant-objects : goal.invariant-objects
 invariant-objects l =
-    head_of (flat_map (dear_parts (design_of l.priced.links.design.now)) (map standing_of (drop l.standing-index l.objects)))
-    ≡ head_of (flat_map (dear_parts (design_of l.priced.links.design.now)) (map standing_of l.objects))
+    head_of (flat_map (dear_parts (design_of l.priced.links.now.design.now)) (map standing_of (drop l.standing-index l.objects)))
+    ≡ head_of (flat_map (dear_parts (design_of l.priced.links.now.design.now)) (map standing_of l.objects))

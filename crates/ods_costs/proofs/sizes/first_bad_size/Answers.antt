@@ -23,5 +23,5 @@ returns c =
     ≡ c.thread_limit-limit.result = sym (c.thread_limit-limit.ensures ∙ ap thread_limit c.priorities_of.ensures) in
     let threads : head_of (over_limit (thread_limit (stated_priorities x)) count (V15Threads count)) ≡ None =
     ap (λ k. head_of (over_limit k count (V15Threads count))) limit ∙ c.in_ok-threads_fit.ensures in
-    sizes-told x (design_of c.args.priced.now.links.design.now) (map standing_of items) (length items) c.costs_fit.result c.requires.same all
+    sizes-told x (design_of c.args.priced.now.links.now.design.now) (map standing_of items) (length items) c.costs_fit.result c.requires.same all
     (sym (length-map items standing_of)) threads c.in_ok-count_fits.ensures c.costs_fit.ensures

@@ -1,7 +1,6 @@
 use Rattle.std.proofs.Common.{◌≡◌, ◌++◌, List, length, map, flat_map, ap, sym, ◌∙◌}
 use Rattle.seq_tree.specs.declared.tree.OpName.{OpName}
 use Rattle.name_sets.specs.Tables.{at}
-use Rattle.ods_tree.specs.Designs.{Design}
 use Rattle.ods_tree.specs.Flattening.{flat}
 use Rattle.ods_tree.specs.Trees.{design_of}
 use Rattle.ods_tree.specs.Walk as walk
@@ -18,14 +17,14 @@ use Rattle.ods_costs.proofs.costs.Priced.new.Goals as goal
 
 pub invariant_of-result : goal.invariant_of-result
 invariant_of-result c =
-    let x = design_of c.in_ok-links.links.design.now in
+    let x = design_of c.args.index.now.links.design.now in
     let place = at c.in_ok-places.places in
     let ss = c.in_ok-services.services.items in
     let given : List walk.Standing → List Entry = λ vs. flat_map (served_part x Plain) vs
     ++ (flat_map (served_part x Guarded) vs ++ flat_map (served_part x Requests) vs) in
     let all : map (served_as x) ss ≡ entries (flat x) = c.in_ok-services.ensures x
     ∙ ap (λ vs. given (map standing_of vs)) c.as_slice.ensures.value ∙ ap given c.requires.walked
-    ∙ ap (λ (d : code.Design). given (walk.objects (design_of d))) (sym c.in_ok-links.ensures) ∙ all-parts x in
+    ∙ ap (λ (d : code.Design). given (walk.objects (design_of d))) (sym c.requires.linked) ∙ all-parts x in
     let placed : (n : OpName) → place n ≡ op_place_from 0 (map (λ e. e.name) (map entry_at ss)) n =
     λ n. c.in_ok-places.ensures n ∙ ap (λ vs. op_place_from 0 (map (λ e. e.name) (map entry_at vs)) n) c.as_slice-2.ensures.value in
     record {

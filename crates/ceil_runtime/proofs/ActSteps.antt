@@ -16,8 +16,7 @@ use Rattle.linked_task.specs.Works.{task_of}
 use Rattle.linked_task.specs.declared.task.Task.{Task}
 use Rattle.linked_task.specs.Sounds.{IsAtWork}
 use Rattle.ceil_runtime.specs.Snapshots.{IsWholeAt, Snapshot, system_at, state_at}
-use Rattle.ceil_runtime.specs.Stepping.{AreOfTask, Steps, Ends, told_of, GoesOn}
-use Rattle.ceil_runtime.specs.declared.processor.Told.TheVariants.{One, Nothing, Two}
+use Rattle.ceil_runtime.specs.Stepping.{AreOfTask, Ends, GoesOn, Nothing, One, Steps, Told, told_of, Two}
 use Rattle.ceil_runtime.proofs.Phases.{acting}
 use Rattle.ceil_runtime.proofs.Processed.{follows-of, step-run, Changed, changed-at-work, changed-system, changed-tasks, get-put, get_within}
 use Rattle.ceil_runtime.proofs.Processed.{here-of, same-at-work}
@@ -27,7 +26,6 @@ use Rattle.machine.specs.Releases.{going, after, is_waiting, released, serve}
 use Rattle.law_dispatching.proofs.Shared.Acts.{goes-readiness, outside-readiness, go-queued, goes-active, other-waits, release-queued, served}
 use Rattle.ceil_runtime.specs.Left.{sleeper}
 use Rattle.law_dispatching.specs.Renumbering.{DifferInOrders}
-use Rattle.ceil_runtime.specs.declared.processor.Told.{Told}
 use Rattle.ceil_runtime.proofs.Falling.{sleepers-sum}
 use Rattle.std.proofs.lemmas.Bool.{cases_eq}
 use Rattle.std.proofs.lemmas.Option.{slice_get-map}

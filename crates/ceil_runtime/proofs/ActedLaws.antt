@@ -24,10 +24,8 @@ use Rattle.linked_task.specs.Sounds.{IsAtWork}
 use Rattle.ceil_runtime.specs.Acted.{HasActed, with_tasks}
 use Rattle.ceil_runtime.specs.Processing.{IsKept, IsSound}
 use Rattle.ceil_runtime.specs.Snapshots.{IsWholeAt, Snapshot, system_at}
-use Rattle.ceil_runtime.specs.Stepping.{Steps}
+use Rattle.ceil_runtime.specs.Stepping.{Nothing, One, Steps, Told, Two}
 use Rattle.ceil_runtime.specs.declared.processor.Phase.TheVariants.{Effects}
-use Rattle.ceil_runtime.specs.declared.processor.Told.{Told}
-use Rattle.ceil_runtime.specs.declared.processor.Told.TheVariants.{Nothing, One, Two}
 use Rattle.ceil_runtime.proofs.ActSteps.{gate-step, gated}
 use Rattle.ceil_runtime.proofs.Effected.{running-free}
 use Rattle.ceil_runtime.proofs.EntrySteps.{answered-step, ask-step, left-whole, ready-each, same-put, unserved-step, waits-open}

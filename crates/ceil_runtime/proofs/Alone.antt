@@ -21,7 +21,7 @@ use Rattle.task_runtime.specs.Effort.{most_ends}
 use Rattle.ceil_runtime.specs.Left.{ran_effort}
 use Rattle.ceil_runtime.specs.Processing.{Follows, IsBelow, IsSound, IsWithin, state_by, system_by}
 use Rattle.ceil_runtime.specs.Snapshots.{AreAtWork, IsWholeAt, Snapshot, running_at}
-use Rattle.ceil_runtime.specs.Stepping.{AreOfTask, HasObject, HasOp, HasUnit, IsNear, IsOfTask, Steps, steps_by, told_of}
+use Rattle.ceil_runtime.specs.Stepping.{AreOfTask, HasObject, HasOp, HasUnit, IsNear, IsOfTask, Nothing, One, Steps, steps_by, Told, told_of, Two}
 use Rattle.task_runtime.specs.Works.{used_ticks}
 use Rattle.linked_task.specs.Works.{task_of}
 use Rattle.task_runtime.specs.Written.{system_of}
@@ -30,8 +30,6 @@ use Rattle.task_runtime.specs.declared.effects.Act.TheVariants as acts
 use Rattle.trace_tree.specs.declared.event.Event.{Event}
 use Rattle.trace_tree.specs.declared.event.Event.TheVariants as event
 use Rattle.ceil_runtime.specs.declared.processor.Phase.TheVariants.{Effects, Delays, Arriving, Use}
-use Rattle.ceil_runtime.specs.declared.processor.Told.{Told}
-use Rattle.ceil_runtime.specs.declared.processor.Told.TheVariants.{Nothing, One, Two}
 use Rattle.linked_task.specs.declared.task.Task.{Task}
 use Rattle.task_runtime.specs.declared.thread.Thread.{Thread}
 use Rattle.ceil_runtime.proofs.Aheads.{wake-most}

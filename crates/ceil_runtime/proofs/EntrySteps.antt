@@ -28,7 +28,7 @@ use Rattle.ceil_runtime.specs.Objects.{first_object, lasting, shown, store_of}
 use Rattle.ceil_runtime.specs.Processing.{IsSound}
 use Rattle.task_runtime.specs.Readies.{readiness_of}
 use Rattle.ceil_runtime.specs.Snapshots.{IsWholeAt, Snapshot, system_at}
-use Rattle.ceil_runtime.specs.Stepping.{HasObject, HasOp, HasUnit, Steps}
+use Rattle.ceil_runtime.specs.Stepping.{HasObject, HasOp, HasUnit, Nothing, One, Steps, Told, Two}
 use Rattle.task_runtime.specs.Works.{Acts, EffortFalls, Enters, Leaves}
 use Rattle.linked_task.specs.Works.{ActsAs, task_of}
 use Rattle.task_runtime.specs.Written.{system_of}
@@ -42,8 +42,6 @@ use Rattle.linked_task.proofs.Shared.FirstPieces.{HasFirst, first-piece}
 use Rattle.task_runtime.specs.declared.readiness.Readiness.{Readiness}
 use Rattle.task_runtime.specs.declared.readiness.Readiness.TheVariants as readies
 use Rattle.ceil_runtime.specs.declared.processor.Phase.TheVariants.{Effects}
-use Rattle.ceil_runtime.specs.declared.processor.Told.{Told}
-use Rattle.ceil_runtime.specs.declared.processor.Told.TheVariants.{Nothing, One, Two}
 use Rattle.ceil_runtime.proofs.ActSteps.{answer-step, entry-step, exit-step, stop-step}
 use Rattle.ceil_runtime.proofs.Effected.{order-queued}
 use Rattle.ceil_runtime.proofs.ObjectsKept.{changed-stores, entered-ceiling, entered-unit}

@@ -13,7 +13,7 @@ use Rattle.ceil_runtime.specs.Processing.{Follows, HasNoEffect, HoldsIn, IsRunni
 use Rattle.ceil_runtime.specs.Shown.{IsSettled}
 use Rattle.linked_task.specs.declared.task.Task.{Task}
 use Rattle.ceil_runtime.specs.Stepping.{GoesOn, told_of}
-use Rattle.ceil_runtime.specs.declared.processor.Told.TheVariants as told
+use Rattle.ceil_runtime.specs.Stepping as told
 use Rattle.ceil_runtime.specs.declared.processor.Phase.TheVariants.{Arriving, Use}
 use Rattle.ceil_runtime.specs.Turns.{last_turn}
 use Rattle.ceil_runtime.specs.declared.processor.Turn.TheVariants.{CeilingViolation, Horizon}

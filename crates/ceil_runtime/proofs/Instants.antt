@@ -24,9 +24,8 @@ use Rattle.linked_task.specs.Sounds.{IsAtWork}
 use Rattle.ceil_runtime.specs.Left.{left}
 use Rattle.ceil_runtime.specs.Processing.{Follows, IsKept, IsSound, IsWithin, state_by}
 use Rattle.ceil_runtime.specs.Snapshots.{IsWholeAt, Snapshot, running_at, state_at, system_at}
-use Rattle.ceil_runtime.specs.Stepping.{Steps}
+use Rattle.ceil_runtime.specs.Stepping.{Nothing, One, Steps, Two}
 use Rattle.ceil_runtime.specs.declared.processor.Phase.TheVariants.{Effects, Delays, Arriving, Use}
-use Rattle.ceil_runtime.specs.declared.processor.Told.TheVariants.{Nothing, One, Two}
 use Rattle.ceil_runtime.proofs.Arrived.{answered-differs, answered-run, answered-sound, asked-known, asked-run, asked-sound, asked-state, asked-unit}
 use Rattle.ceil_runtime.proofs.Arrived.{is_of, nobody-asked}
 use Rattle.ceil_runtime.proofs.Falling.{falls-arrival, falls-release, falls-use}

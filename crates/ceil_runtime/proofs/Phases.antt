@@ -1,11 +1,12 @@
 -- A processor in a known part of an instant, whose run goes on: it is the same with that part and that it has not stopped written out, so that
 -- what a step comes to is found by computing.
-use Rattle.std.specs.Prelude.{◌≡◌, ℕ, ◌<◌, ◌^◌, false, Some, get_or, length, slice_get, refl}
+use Rattle.std.specs.Prelude.{◌≡◌, ℕ, ◌<◌, ◌^◌, false, List, Some, get_or, length, slice_get, refl}
 use Rattle.std.proofs.Common.{sym, ◌∙◌, ap, subst, arith}
 use Rattle.std.proofs.lemmas.Option.{same_Some, slice_get_read}
 use Rattle.linked_task.specs.Doings.{IsDeed}
 use Rattle.linked_task.specs.Works.{ActsAs, task_of}
 use Rattle.task_runtime.specs.Written.{system_of}
+use Rattle.trace_tree.specs.declared.event.Event.{Event}
 use Rattle.linked_task.specs.declared.piece.Deed.{Deed}
 use Rattle.linked_task.specs.declared.piece.Piece.{Piece}
 use Rattle.linked_task.specs.declared.task.Task.{Task}
@@ -13,10 +14,13 @@ use Rattle.linked_task.specs.Sounds.{IsAtWork}
 use Rattle.ceil_runtime.specs.Acted.{IsActing, IsDoing}
 use Rattle.ceil_runtime.specs.Processing.{HasPiece, IsKept}
 use Rattle.ceil_runtime.specs.Snapshots.{IsWholeAt, Snapshot}
-use Rattle.ceil_runtime.specs.Stepping.{Steps}
+use Rattle.ceil_runtime.specs.Stepping.{Steps, StepsTelling, Told, told_of}
 use Rattle.ceil_runtime.specs.declared.processor.Phase.{Phase}
 use Rattle.ceil_runtime.specs.declared.processor.Phase.TheVariants.{Effects}
-use Rattle.ceil_runtime.specs.declared.processor.Told.{Told}
+
+-- a step, with the events that stand for what it tells
+pub telling : (s s' : Snapshot) (told : Told) (events : List Event) → Steps s told s' → events ≡ told_of told → StepsTelling s events s'
+telling s s' told events step is = (told, is, step)
 
 -- a processor in this part of an instant
 abbrev pub at_phase : Phase → Snapshot → Snapshot

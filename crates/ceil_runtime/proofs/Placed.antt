@@ -1,5 +1,5 @@
 -- The events of a run are of the program that runs, whichever task they are of.
-use Rattle.std.specs.Prelude.{◌≡◌, ◌⊎◌, ℕ, zero, suc, ◌+◌, ◌<◌, List, [], ◌∷◌, ◌++◌, length, map, filter_map, Option, Some, None, option_map}
+use Rattle.std.specs.Prelude.{◌≡◌, ◌⊎◌, ℕ, zero, suc, ◌+◌, ◌<◌, List, [], ◌∷◌, length, map, filter_map, Option, Some, None, option_map}
 use Rattle.std.specs.Prelude.{slice_get, unwrap_or}
 use Rattle.std.specs.List.{enumerate_from}
 use Rattle.std.proofs.Common.{sym, ◌∙◌, ap, subst, arith, inl, inr}
@@ -20,7 +20,7 @@ use Rattle.trace_tree.specs.Placed.{IsOp, IsPlaced, IsUnit}
 use Rattle.machine.specs.Systems.{ProtectedUnit, TaskUnit, thread_by, system}
 use Rattle.task_runtime.specs.Libraries.{objects_from}
 use Rattle.ceil_runtime.specs.Processing.{AllTasks, IsKept}
-use Rattle.ceil_runtime.specs.Stepping.{HasObject, HasOp, HasUnit, IsOfTask}
+use Rattle.ceil_runtime.specs.Stepping.{AreOfTask, HasObject, HasOp, HasUnit, IsOfTask, Nothing, One, Told, Two, told_of}
 use Rattle.task_runtime.specs.Written.{system_of, thread_of}
 use Rattle.linked_task.specs.declared.task.Task.{Task}
 
@@ -129,19 +129,13 @@ event-placed p a tasks (event.Stop time task unit priority ceiling) objects thre
   by_unit (inl h) = has-object p tasks unit objects h
   by_unit (inr h) = has-unit p a tasks unit threads h
 
--- the one event in the buffer
-pub pushed-placed : (p : Program) (a : Arrivals) (tasks : List Task) (e : Event) (before now : List Event) → before ≡ [] → now ≡ before ++ e ∷ []
-    → AreOfUnits p tasks
-    → (system p a).threads ≡ map (λ t. thread_of t.progress.stack.thread) tasks → IsOfTask tasks e → Each (IsPlaced p) now
-pushed-placed p a tasks e before now empty pushed objects threads of =
-    subst (Each (IsPlaced p)) (sym (pushed ∙ ap (λ xs. xs ++ e ∷ []) empty)) (event-placed p a tasks e objects threads of, tt)
-
--- the two events in the buffer
-pub both-placed : (p : Program) (a : Arrivals) (tasks : List Task) (e f : Event) (before now : List Event) → before ≡ [] → now ≡ before ++ e ∷ f ∷ []
-    → AreOfUnits p tasks
-    → (system p a).threads ≡ map (λ t. thread_of t.progress.stack.thread) tasks → IsOfTask tasks e × IsOfTask tasks f → Each (IsPlaced p) now
-both-placed p a tasks e f before now empty pushed objects threads of =
-    subst (Each (IsPlaced p)) (sym (pushed ∙ ap (λ xs. xs ++ e ∷ f ∷ []) empty))
+-- the events that a step told
+pub told-placed : (p : Program) (a : Arrivals) (tasks : List Task) (t : Told) (now : List Event) → now ≡ told_of t → AreOfUnits p tasks
+    → (system p a).threads ≡ map (λ t. thread_of t.progress.stack.thread) tasks → AreOfTask tasks t → Each (IsPlaced p) now
+told-placed p a tasks Nothing now is objects threads of = subst (Each (IsPlaced p)) (sym is) tt
+told-placed p a tasks (One e) now is objects threads of = subst (Each (IsPlaced p)) (sym is) (event-placed p a tasks e objects threads of, tt)
+told-placed p a tasks (Two e f) now is objects threads of =
+    subst (Each (IsPlaced p)) (sym is)
     (event-placed p a tasks e objects threads of.0, (event-placed p a tasks f objects threads of.1, tt))
 
 -- the tasks of a processor are of its units

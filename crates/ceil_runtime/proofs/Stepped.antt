@@ -32,10 +32,8 @@ use Rattle.linked_task.specs.Alongs.{HasDone}
 use Rattle.ceil_runtime.specs.Left.{ran_effort, sleeper, sleepers}
 use Rattle.ceil_runtime.specs.Processing.{Follows, IsSound, order_of, state_by, system_by}
 use Rattle.ceil_runtime.specs.Snapshots.{AreAtWork, IsWholeAt, Snapshot, running_at, state_at, system_at}
-use Rattle.ceil_runtime.specs.Stepping.{AreOfTask, Ends, HasUnit, IsNear, Steps, told_of}
+use Rattle.ceil_runtime.specs.Stepping.{AreOfTask, Ends, HasUnit, IsNear, Nothing, One, Steps, Told, told_of, Two}
 use Rattle.ceil_runtime.specs.declared.processor.Phase.TheVariants.{Effects, Delays}
-use Rattle.ceil_runtime.specs.declared.processor.Told.{Told}
-use Rattle.ceil_runtime.specs.declared.processor.Told.TheVariants.{Nothing, One, Two}
 use Rattle.ceil_runtime.proofs.Falling.{falls-effect, sleeper-most, sleepers-sum}
 use Rattle.ceil_runtime.proofs.Nearing.{fewer-effects, nears-effect, reserve-most}
 use Rattle.ceil_runtime.proofs.Phases.{acting, at_phase}

@@ -16,8 +16,6 @@ use Rattle.linked_task.specs.declared.task.Task.{Task}
 use Rattle.ceil_runtime.specs.declared.processor.Phase.{Phase}
 use Rattle.ceil_runtime.specs.declared.processor.Phase.TheVariants.{Effects, Delays, Arriving, Use}
 use Rattle.ceil_runtime.specs.declared.processor.Machine.{Machine}
-use Rattle.ceil_runtime.specs.declared.processor.Told.{Told}
-use Rattle.ceil_runtime.specs.declared.processor.Told.TheVariants.{Nothing, One, Two}
 
 -- the steps that an instant may still have, by its part
 abbrev pub steps_in : ℕ → Phase → List Task → Option ℕ → ℕ
@@ -33,7 +31,13 @@ steps_by arrivals most until time phase tasks ran = (until - time) * (most + 4) 
 abbrev pub steps_left : Snapshot → ℕ
 steps_left s = steps_by s.arrivals (most_ends (system_at s)) s.until s.time s.phase s.tasks s.ran
 
--- the events that a step tells
+-- what a step tells
+pub data Told : Type 0 where
+  Nothing : Told
+  One : (event : Event) → Told
+  Two : (first second : Event) → Told
+
+-- its events
 abbrev pub told_of : Told → List Event
 told_of Nothing = []
 told_of (One e) = e ∷ []
@@ -124,9 +128,13 @@ pub record Steps (s : Snapshot) (told : Told) (s' : Snapshot) : Type 0 where
   pub of : AreOfTask s.tasks told
   pub falls : Falls (running_at s) (told_of told) (running_at s')
 
+-- the same, by the events that it tells
+abbrev pub StepsTelling : Snapshot → List Event → Snapshot → Type 0
+StepsTelling s events s' = (told : Told) × (events ≡ told_of told) × Steps s told s'
+
 -- the same of machines
-abbrev pub IsStep : Machine → Told → Machine → Type 0
-IsStep m told m' = Steps (snapshot_of m) told (snapshot_of m')
+abbrev pub IsStep : Machine → List Event → Machine → Type 0
+IsStep m events m' = StepsTelling (snapshot_of m) events (snapshot_of m')
 
 -- a processor before an arrival was taken
 abbrev pub before_arrival : Arrival → Snapshot → Snapshot

@@ -70,7 +70,7 @@ impl EventBuf {
     }
 
     /// One more event, where there is room for it.
-    pub(crate) fn push(&mut self, event: Event)
+    fn push(&mut self, event: Event)
         requires { length self.old < 16 }
         ensures { self.new ≡ self.old ++ event ∷ [] }
     {
@@ -78,12 +78,19 @@ impl EventBuf {
         self.len += 1;
     }
 
-    /// Two events more, where there is room for them.
-    pub(crate) fn push_both(&mut self, first: Event, second: Event)
-        requires { length self.old < 15 }
-        ensures { self.new ≡ self.old ++ first ∷ second ∷ [] }
+    /// Holds this event alone.
+    pub(crate) fn tell(&mut self, event: Event)
+        ensures { self.new ≡ event ∷ [] }
     {
-        self.push(first);
+        self.clear();
+        self.push(event);
+    }
+
+    /// Holds these two events alone.
+    pub(crate) fn tell_both(&mut self, first: Event, second: Event)
+        ensures { self.new ≡ first ∷ second ∷ [] }
+    {
+        self.tell(first);
         self.push(second);
     }
 }

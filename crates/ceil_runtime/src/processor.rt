@@ -82,14 +82,6 @@ enum Phase {
     Use,
 }
 
-/// What a step tells.
-#[derive(Drop)]
-enum Told {
-    Nothing,
-    One(Event),
-    Two(Event, Event),
-}
-
 /// Puts a task to sleep until its first time, where it has times of its own.
 fn sleep_first(links: &mut Links, task: u32, timing: Timing)
     requires { IsFree links.old task }
@@ -270,7 +262,7 @@ impl<'a> Machine<'a> {
     ghost use Rattle.ceil_runtime.specs.Acted.{HasActed, IsActing, IsDoing, with_tasks};
     ghost use Rattle.ceil_runtime.specs.Alone.{GoesAlone, IsAlone};
     ghost use Rattle.linked_task.specs.Doings.{StaysOutside};
-    ghost use Rattle.ceil_runtime.specs.Stepping.{HasStopped, IsStep, Steps, before_arrival};
+    ghost use Rattle.ceil_runtime.specs.Stepping.{HasStopped, IsStep, Nothing, Steps, StepsTelling, before_arrival};
 
     /// The opening of a program under arrivals that are accepted for it. The one error is want of memory: a failed allocation, and two
     /// limits that are told as one. A protected object may have fewer than 2^32 operations, since an event tells their places in 32
@@ -354,7 +346,7 @@ impl<'a> Machine<'a> {
         requires whole { IsWhole self.old }
         requires phase { self.old.phase ≡ Phase.Use }
         requires goes_on { self.old.stopped ≡ false }
-        ensures { IsStep self.old Told.Nothing self.new }
+        ensures { Steps (snapshot_of self.old) Nothing (snapshot_of self.new) }
     {
         let ticks = ticks_ahead(
             &self.links,
@@ -375,45 +367,47 @@ impl<'a> Machine<'a> {
     }
 
     /// The end of the arrivals of an instant: the horizon, where its time has come.
-    fn horizon(&mut self) -> Told
+    fn horizon(&mut self, events: &mut EventBuf)
         requires whole { IsWhole self.old }
         requires phase { self.old.phase ≡ Phase.Arriving }
         requires goes_on { self.old.stopped ≡ false }
         requires none { NoArrival self.old.time self.old.arrivals.now }
-        ensures { IsStep self.old result self.new }
+        requires empty { events.old ≡ [] }
+        ensures { IsStep self.old events.new self.new }
     {
         if self.time == self.until {
             self.stopped = true;
-            return Told::One(Event::Horizon { time: self.time });
+            events.tell(Event::Horizon { time: self.time });
+            return;
         }
         self.phase = Phase::Use;
-        Told::Nothing
     }
 
     /// An arrival whose time has come: its value is kept, and where the task waits, it is released.
-    fn arrive(&mut self, arrival: Arrival, others: &'a [Arrival]) -> Told
+    fn arrive(&mut self, arrival: Arrival, others: &'a [Arrival], events: &mut EventBuf)
         requires whole { IsWhole self.old }
         requires phase { self.old.phase ≡ Phase.Arriving }
         requires goes_on { self.old.stopped ≡ false }
         requires first { self.old.arrivals.now ≡ arrival ∷ others.now }
         requires now { arrival.time ≡ self.old.time }
-        ensures { IsStep self.old result self.new }
+        requires empty { events.old ≡ [] }
+        ensures { IsStep self.old events.new self.new }
     {
         self.arrivals = others;
         let Some(task) = place_of(self.tasks.as_slice(), arrival.task) else {
-            return Told::Nothing;
+            return;
         };
-        self.ask_at(task, arrival)
+        self.ask_at(task, arrival, events);
     }
 
     /// The arrival of a request for the task at this place, taken off the arrivals before.
-    fn ask_at(&mut self, task: u32, arrival: Arrival) -> Told
+    fn ask_at(&mut self, task: u32, arrival: Arrival, events: &mut EventBuf)
         requires whole { IsWholeAt (before_arrival arrival (snapshot_of self.old)) }
         requires phase { self.old.phase ≡ Phase.Arriving }
         requires goes_on { self.old.stopped ≡ false }
         requires now { arrival.time ≡ self.old.time }
         requires found { Some task ≡ option_map (λ t. t.0) (first_where (λ t. t.thread.unit == arrival.task) (map task_of self.old.tasks.items)) }
-        ensures { Steps (before_arrival arrival (snapshot_of self.old)) result (snapshot_of self.new) }
+        ensures { StepsTelling (before_arrival arrival (snapshot_of self.old)) events.new (snapshot_of self.new) }
     {
         let asked = &mut self.tasks[task as usize];
         asked.arrive(arrival.value);
@@ -423,56 +417,61 @@ impl<'a> Machine<'a> {
             value: arrival.value,
         };
         let Readiness::Waiting = asked.readiness else {
-            return Told::One(arrived);
+            events.tell(arrived);
+            return;
         };
         asked.release(&self.costs, &self.code);
         self.links.push_tail(task, asked.active);
-        Told::Two(
+        events.tell_both(
             arrived,
             Event::Release {
                 time: self.time,
                 task: asked.progress.stack.thread.unit,
                 value: arrival.value,
             },
-        )
+        );
     }
 
     /// Arrivals: the first of those left, where its time has come, and then the horizon.
-    fn arriving(&mut self) -> Told
+    fn arriving(&mut self, events: &mut EventBuf)
         requires whole { IsWhole self.old }
         requires phase { self.old.phase ≡ Phase.Arriving }
         requires goes_on { self.old.stopped ≡ false }
-        ensures { IsStep self.old result self.new }
+        requires empty { events.old ≡ [] }
+        ensures { IsStep self.old events.new self.new }
     {
         let Some((arrival, others)) = self.arrivals.split_first() else {
-            return self.horizon();
+            self.horizon(events);
+            return;
         };
         if arrival.time != self.time {
-            return self.horizon();
+            self.horizon(events);
+            return;
         }
-        self.arrive(*arrival, others)
+        self.arrive(*arrival, others, events);
     }
 
     /// Delays: the release of the first sleeping task whose time has come.
-    fn delays(&mut self) -> Told
+    fn delays(&mut self, events: &mut EventBuf)
         requires whole { IsWhole self.old }
         requires phase { self.old.phase ≡ Phase.Delays }
         requires goes_on { self.old.stopped ≡ false }
-        ensures { IsStep self.old result self.new }
+        requires empty { events.old ≡ [] }
+        ensures { IsStep self.old events.new self.new }
     {
         let Some(task) = self.links.wake_due(self.time) else {
             self.phase = Phase::Arriving;
-            return Told::Nothing;
+            return;
         };
         let released = &mut self.tasks[task as usize];
         let value = released.gate.value;
         released.release(&self.costs, &self.code);
         self.links.push_tail(task, released.active);
-        Told::One(Event::Release {
+        events.tell(Event::Release {
             time: self.time,
             task: released.progress.stack.thread.unit,
             value,
-        })
+        });
     }
 
     /// The piece of a task, where its ticks are used.
@@ -493,7 +492,7 @@ impl<'a> Machine<'a> {
     fn end_effects(&mut self, task: u32)
         requires acting { IsActing (snapshot_of self.old) task }
         requires none { HasNoPiece self.old.tasks.items task }
-        ensures { IsStep self.old Told.Nothing self.new }
+        ensures { Steps (snapshot_of self.old) Nothing (snapshot_of self.new) }
     {
         let active = self.tasks[task as usize].active;
         self.links.push_head(task, active);
@@ -536,124 +535,128 @@ impl<'a> Machine<'a> {
     }
 
     /// Effects: that of the piece of the task that used the tick before, where its ticks are used.
-    fn effects(&mut self, running: Option<u32>) -> Told
+    fn effects(&mut self, running: Option<u32>, events: &mut EventBuf)
         requires whole { IsWhole self.old }
         requires phase { self.old.phase ≡ Phase.Effects running }
         requires goes_on { self.old.stopped ≡ false }
-        ensures { IsStep self.old result self.new }
+        requires empty { events.old ≡ [] }
+        ensures { IsStep self.old events.new self.new }
     {
         let Some(task) = running else {
             self.phase = Phase::Delays;
-            return Told::Nothing;
+            return;
         };
         self.go_on(task);
         let Some(piece) = self.due(task) else {
             self.end_effects(task);
-            return Told::Nothing;
+            return;
         };
-        self.effect(task, piece)
+        self.effect(task, piece, events);
     }
 
     /// The effect of the piece of a task whose ticks are used.
-    fn effect(&mut self, task: u32, piece: Piece) -> Told
+    fn effect(&mut self, task: u32, piece: Piece, events: &mut EventBuf)
         requires acting { IsActing (snapshot_of self.old) task }
         requires piece { HasPiece self.old.tasks.items task piece }
-        ensures { IsStep self.old result self.new }
+        requires empty { events.old ≡ [] }
+        ensures { IsStep self.old events.new self.new }
     {
         match self.tasks[task as usize].deed(&self.code, piece) {
-            Deed::Own => self.act(task, piece),
-            Deed::Enter(entry) => self.enter(task, piece, entry),
-            Deed::Leave(entry) => self.leave(task, piece, entry),
-            Deed::Ask(target) => self.ask(task, piece, target),
+            Deed::Own => self.act(task, piece, events),
+            Deed::Enter(entry) => self.enter(task, piece, entry, events),
+            Deed::Leave(entry) => self.leave(task, piece, entry, events),
+            Deed::Ask(target) => self.ask(task, piece, target, events),
         }
     }
 
     /// The stop of the run: a task was to enter a section of this unit, whose ceiling is below the task's active priority.
-    fn stop(&mut self, task: u32, unit: u32, ceiling: u32) -> Told
+    fn stop(&mut self, task: u32, unit: u32, ceiling: u32, events: &mut EventBuf)
         requires known { task < length self.old.tasks.items }
         ensures machine { HasStopped self.old self.new }
         ensures told { (t : Task) → slice_get self.old.tasks.items task ≡ Some t
-            → result ≡ Told.One (event.Stop self.old.time t.progress.stack.thread.unit unit t.active ceiling) }
+            → events.new ≡ event.Stop self.old.time t.progress.stack.thread.unit unit t.active ceiling ∷ [] }
     {
         let caller = &self.tasks[task as usize];
-        let stop = Event::Stop {
+        events.tell(Event::Stop {
             time: self.time,
             task: caller.progress.stack.thread.unit,
             unit,
             priority: caller.active,
             ceiling,
-        };
+        });
         self.stopped = true;
-        Told::One(stop)
     }
 
     /// The entry into a protected object, whose data the task takes, unless its active priority is above the ceiling.
-    fn enter(&mut self, task: u32, piece: Piece, entry: Entry) -> Told
+    fn enter(&mut self, task: u32, piece: Piece, entry: Entry, events: &mut EventBuf)
         requires does { (t : Task) × IsDoing (snapshot_of self.old) task piece (Deed.Enter entry) t }
-        ensures { IsStep self.old result self.new }
+        ensures { IsStep self.old events.new self.new }
     {
         let object = &self.objects[entry.object];
         let unit = object.unit;
         let ceiling = object.ceiling;
         if self.tasks[task as usize].is_above(ceiling) {
-            return self.stop(task, unit, ceiling);
+            self.stop(task, unit, ceiling, events);
+            return;
         }
         // No task is inside, so that the data are all at home.
         let object = &mut self.objects[entry.object];
         let caller = &mut self.tasks[task as usize];
         let values = caller.enter(&self.costs, &self.code, entry, &mut object.data);
         caller.go_inside(Section::Object(entry.object), ceiling);
-        Told::One(Event::Enter {
+        events.tell(Event::Enter {
             time: self.time,
             task: caller.progress.stack.thread.unit,
             unit: object.unit,
             op: entry.place as u32,
             values,
-        })
+        });
     }
 
     /// The exit from a protected object, which takes its data back.
-    fn leave(&mut self, task: u32, piece: Piece, entry: Entry) -> Told
+    fn leave(&mut self, task: u32, piece: Piece, entry: Entry, events: &mut EventBuf)
         requires does { (t : Task) × IsDoing (snapshot_of self.old) task piece (Deed.Leave entry) t }
-        ensures { IsStep self.old result self.new }
+        ensures { IsStep self.old events.new self.new }
     {
         let object = &mut self.objects[entry.object];
         let caller = &mut self.tasks[task as usize];
         let values = caller.leave(&self.costs, &self.code, entry, &mut object.data);
         caller.go_outside();
-        Told::One(Event::Leave {
+        events.tell(Event::Leave {
             time: self.time,
             task: caller.progress.stack.thread.unit,
             unit: object.unit,
             op: entry.place as u32,
             values,
-        })
+        });
     }
 
     /// The entry into the control structure of a task, unless the active priority of the one that requests it is above the ceiling.
-    fn ask(&mut self, task: u32, piece: Piece, target: usize) -> Told
+    fn ask(&mut self, task: u32, piece: Piece, target: usize, events: &mut EventBuf)
         requires does { (t : Task) × IsDoing (snapshot_of self.old) task piece (Deed.Ask target) t }
-        ensures { IsStep self.old result self.new }
+        requires empty { events.old ≡ [] }
+        ensures { IsStep self.old events.new self.new }
     {
         let asked = &self.tasks[target];
         let unit = asked.progress.stack.thread.unit;
         let ceiling = ceiling_of(asked.progress.stack.thread.timing);
         if self.tasks[task as usize].is_above(ceiling) {
-            return self.stop(task, unit, ceiling);
+            self.stop(task, unit, ceiling, events);
+            return;
         }
         self.own_effect(task, piece);
         self.tasks[task as usize].go_inside(Section::Control(target), ceiling);
-        Told::Nothing
     }
 
     /// The effect of a piece that neither enters a section nor leaves a protected object.
-    fn act(&mut self, task: u32, piece: Piece) -> Told
+    fn act(&mut self, task: u32, piece: Piece, events: &mut EventBuf)
         requires does { (t : Task) × IsDoing (snapshot_of self.old) task piece Deed.Own t }
-        ensures { IsStep self.old result self.new }
+        requires empty { events.old ≡ [] }
+        ensures { IsStep self.old events.new self.new }
     {
         match self.own_effect(task, piece) {
-            Act::Silent => Told::Nothing,
-            Act::Print(value) => Told::One(Event::Print {
+            Act::Silent => {}
+            Act::Print(value) => events.tell(Event::Print {
                 time: self.time,
                 task: self.tasks[task as usize].progress.stack.thread.unit,
                 value,
@@ -662,28 +665,22 @@ impl<'a> Machine<'a> {
             Act::Keep {
                 task: target,
                 value,
-            } => {
-                self.tasks[target].keep(value);
-                Told::Nothing
-            }
-            Act::Open(target) => {
-                self.tasks[target].open_gate();
-                Told::Nothing
-            }
+            } => self.tasks[target].keep(value),
+            Act::Open(target) => self.tasks[target].open_gate(),
             Act::Ended {
                 task: target,
                 value,
-            } => self.answer(task, target, value),
-            Act::Finish => self.finish(task),
+            } => self.answer(task, target, value, events),
+            Act::Finish => self.finish(task, events),
         }
     }
 
     /// The end of a request, by which its task leaves the control structure: the task that was requested is released, where it waits and
     /// its control structure is open.
-    fn answer(&mut self, task: u32, target: usize, value: Option<u32>) -> Told
+    fn answer(&mut self, task: u32, target: usize, value: Option<u32>, events: &mut EventBuf)
         requires acted { (ts : List Task) × (t : Task) × (t' : Task) × HasActed ts (snapshot_of self.old) task (Act.Ended target value) t t' }
         ensures { (ts : List Task) (t t' : Task) → HasActed ts (snapshot_of self.old) task (Act.Ended target value) t t'
-            → Steps (with_tasks ts (snapshot_of self.old)) result (snapshot_of self.new) }
+            → StepsTelling (with_tasks ts (snapshot_of self.old)) events.new (snapshot_of self.new) }
     {
         let active = &mut self.tasks[task as usize];
         let unit = active.progress.stack.thread.unit;
@@ -696,27 +693,28 @@ impl<'a> Machine<'a> {
             value,
         };
         if !asked.is_served() {
-            return Told::One(request);
+            events.tell(request);
+            return;
         }
         let kept = asked.gate.value;
         asked.release(&self.costs, &self.code);
         self.links.push_tail(target as u32, asked.active);
-        Told::Two(
+        events.tell_both(
             request,
             Event::Release {
                 time: self.time,
                 task: asked.progress.stack.thread.unit,
                 value: kept,
             },
-        )
+        );
     }
 
     /// The end of an activation: the task sleeps until its next time, or waits for a request, and is released at once where its control
     /// structure is open.
-    fn finish(&mut self, task: u32) -> Told
+    fn finish(&mut self, task: u32, events: &mut EventBuf)
         requires acted { (ts : List Task) × (t : Task) × (t' : Task) × HasActed ts (snapshot_of self.old) task Act.Finish t t' }
         ensures { (ts : List Task) (t t' : Task) → HasActed ts (snapshot_of self.old) task Act.Finish t t'
-            → Steps (with_tasks ts (snapshot_of self.old)) result (snapshot_of self.new) }
+            → StepsTelling (with_tasks ts (snapshot_of self.old)) events.new (snapshot_of self.new) }
     {
         let active = &mut self.tasks[task as usize];
         let unit = active.progress.stack.thread.unit;
@@ -728,38 +726,38 @@ impl<'a> Machine<'a> {
         self.phase = Phase::Effects(None);
         if let Readiness::Asleep = active.readiness {
             self.links.sleep(task, active.next.max(self.time));
-            return Told::One(ended);
+            events.tell(ended);
+            return;
         }
         let value = active.gate.value;
         if !active.gate.open {
-            return Told::One(ended);
+            events.tell(ended);
+            return;
         }
         active.release(&self.costs, &self.code);
         self.links.push_tail(task, active.active);
-        Told::Two(
+        events.tell_both(
             ended,
             Event::Release {
                 time: self.time,
                 task: unit,
                 value,
             },
-        )
+        );
     }
 
     /// One step, or as many ticks as can be used at once, and what it tells.
-    fn step(&mut self) -> Told
+    fn step(&mut self, events: &mut EventBuf)
         requires whole { IsWhole self.old }
         requires goes_on { self.old.stopped ≡ false }
-        ensures { IsStep self.old result self.new }
+        requires empty { events.old ≡ [] }
+        ensures { IsStep self.old events.new self.new }
     {
         match self.phase {
-            Phase::Effects(running) => self.effects(running),
-            Phase::Delays => self.delays(),
-            Phase::Arriving => self.arriving(),
-            Phase::Use => {
-                self.use_ticks();
-                Told::Nothing
-            }
+            Phase::Effects(running) => self.effects(running, events),
+            Phase::Delays => self.delays(events),
+            Phase::Arriving => self.arriving(events),
+            Phase::Use => self.use_ticks(),
         }
     }
 
@@ -780,17 +778,13 @@ impl<'a> Machine<'a> {
         ensures placed { (p : Program) (a : Arriving) → (running_of self.old).system ≡ system p a → EachEvent (IsPlaced p) events.new }
     {
         'steps: loop {
-            match self.step() {
-                Told::Nothing => {}
-                Told::One(event) => {
-                    let last = turn_of(&event);
-                    events.push(event);
-                    return if self.stopped { last } else { Turn::More };
-                }
-                Told::Two(first, second) => {
-                    events.push_both(first, second);
-                    return Turn::More;
-                }
+            self.step(events);
+            if let Some((last, _)) = events.events().split_last() {
+                return if self.stopped {
+                    turn_of(last)
+                } else {
+                    Turn::More
+                };
             }
         }
     }

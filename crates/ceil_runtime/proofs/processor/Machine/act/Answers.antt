@@ -5,10 +5,9 @@ use Rattle.task_runtime.specs.declared.effects.Act.TheVariants.{Keep, Open, Prin
 use Rattle.linked_task.specs.declared.piece.Deed.TheVariants.{Own}
 use Rattle.ceil_runtime.specs.Acted.{with_tasks}
 use Rattle.ceil_runtime.specs.Shown.{snapshot_of}
-use Rattle.ceil_runtime.specs.Stepping.{Steps}
-use Rattle.ceil_runtime.specs.declared.processor.Told.TheVariants.{Nothing, One}
+use Rattle.ceil_runtime.specs.Stepping.{Nothing, One, Steps, StepsTelling}
 use Rattle.ceil_runtime.proofs.ActedLaws.{acted-among, acted-found, acted-within, keep-acted, open-acted, print-acted, silent-acted}
-use Rattle.ceil_runtime.proofs.Phases.{doing-piece, doing-there}
+use Rattle.ceil_runtime.proofs.Phases.{doing-piece, doing-there, telling}
 use Rattle.linked_task.proofs.Shared.AtWork.{reached-act, stays-own}
 use Rattle.trace_tree.specs.declared.event.Event.TheVariants as event
 use Rattle.ceil_runtime.proofs.processor.Machine.act.Goals as goal
@@ -28,7 +27,8 @@ pub returns-in-Silent : goal.returns-in-Silent
 returns-in-Silent c =
     let n = snapshot_of c.own_effect.new.self in
     let a = c.in-Silent.ensures.acted in
-    subst (λ x. Steps x Nothing n) (sym c.in-Silent.ensures.before) (silent-acted c.args.self.now.tasks.items n c.args.task a.0 a.1 a.2)
+    telling (snapshot_of c.args.self.now) n Nothing _ (subst (λ x. Steps x Nothing n) (sym c.in-Silent.ensures.before)
+    (silent-acted c.args.self.now.tasks.items n c.args.task a.0 a.1 a.2)) c.requires.empty
 
 pub index-requires : goal.index-requires
 index-requires c =
@@ -45,9 +45,10 @@ returns-in-Print c =
     let n = snapshot_of c.own_effect.new.self in
     let a = c.in-Print.ensures.acted in
     let x = c.index.result.now in
-    subst (λ s. Steps s (One (event.Print n.time x.progress.stack.thread.unit c.in-Print.value)) n) (sym c.in-Print.ensures.before)
+    let one = One (event.Print n.time x.progress.stack.thread.unit c.in-Print.value) in
+    telling (snapshot_of c.args.self.now) n one _ (subst (λ s. Steps s one n) (sym c.in-Print.ensures.before)
     (print-acted ts n c.args.task a.0 x c.in-Print.value
-    (acted-found ts n c.args.task (Print c.in-Print.value) a.0 a.1 a.2 x c.index.ensures))
+    (acted-found ts n c.args.task (Print c.in-Print.value) a.0 a.1 a.2 x c.index.ensures))) c.tell.ensures
 
 pub unreachable-requires : goal.unreachable-requires
 unreachable-requires c =
@@ -70,9 +71,10 @@ pub returns-in-Keep : goal.returns-in-Keep
 returns-in-Keep c =
     let n = snapshot_of c.own_effect.new.self in
     let a = c.in-Keep.ensures.acted in
-    subst (λ s. Steps s Nothing (with_tasks (set n.tasks c.in-Keep.target c.keep.new.self) n)) (sym c.in-Keep.ensures.before)
+    telling (snapshot_of c.args.self.now) _ Nothing _
+    (subst (λ s. Steps s Nothing (with_tasks (set n.tasks c.in-Keep.target c.keep.new.self) n)) (sym c.in-Keep.ensures.before)
     (keep-acted c.args.self.now.tasks.items n c.args.task a.0 a.1 c.in-Keep.target c.index_mut.result.now c.keep.new.self c.index_mut.ensures.value
-    c.keep.ensures.progress c.keep.ensures.same c.in-Keep.value a.2 c.keep.ensures.task)
+    c.keep.ensures.progress c.keep.ensures.same c.in-Keep.value a.2 c.keep.ensures.task)) c.requires.empty
 
 pub index_mut-requires-in-Open : goal.index_mut-requires-in-Open
 index_mut-requires-in-Open c =
@@ -88,9 +90,10 @@ pub returns-in-Open : goal.returns-in-Open
 returns-in-Open c =
     let n = snapshot_of c.own_effect.new.self in
     let a = c.in-Open.ensures.acted in
-    subst (λ s. Steps s Nothing (with_tasks (set n.tasks c.in-Open.target c.open_gate.new.self) n)) (sym c.in-Open.ensures.before)
+    telling (snapshot_of c.args.self.now) _ Nothing _
+    (subst (λ s. Steps s Nothing (with_tasks (set n.tasks c.in-Open.target c.open_gate.new.self) n)) (sym c.in-Open.ensures.before)
     (open-acted c.args.self.now.tasks.items n c.args.task a.0 a.1 c.in-Open.target c.index_mut-in-Open.result.now c.open_gate.new.self
-    c.index_mut-in-Open.ensures.value c.open_gate.ensures.progress c.open_gate.ensures.same a.2 c.open_gate.ensures.task)
+    c.index_mut-in-Open.ensures.value c.open_gate.ensures.progress c.open_gate.ensures.same a.2 c.open_gate.ensures.task)) c.requires.empty
 
 pub answer-requires : goal.answer-requires
 answer-requires c = let a = c.in-Ended.ensures.acted in record { acted = (c.args.self.now.tasks.items, a.0, a.1, a.2) }
@@ -98,7 +101,7 @@ answer-requires c = let a = c.in-Ended.ensures.acted in record { acted = (c.args
 pub returns-in-Ended : goal.returns-in-Ended
 returns-in-Ended c =
     let a = c.in-Ended.ensures.acted in
-    subst (λ s. Steps s c.answer.result (snapshot_of c.answer.new.self)) (sym c.in-Ended.ensures.before)
+    subst (λ s. StepsTelling s c.answer.new.events (snapshot_of c.answer.new.self)) (sym c.in-Ended.ensures.before)
     (c.answer.ensures c.args.self.now.tasks.items a.0 a.1 a.2)
 
 pub finish-requires : goal.finish-requires
@@ -107,5 +110,5 @@ finish-requires c = let a = c.in-Finish.ensures.acted in record { acted = (c.arg
 pub returns-in-Finish : goal.returns-in-Finish
 returns-in-Finish c =
     let a = c.in-Finish.ensures.acted in
-    subst (λ s. Steps s c.finish.result (snapshot_of c.finish.new.self)) (sym c.in-Finish.ensures.before)
+    subst (λ s. StepsTelling s c.finish.new.events (snapshot_of c.finish.new.self)) (sym c.in-Finish.ensures.before)
     (c.finish.ensures c.args.self.now.tasks.items a.0 a.1 a.2)

@@ -1,11 +1,13 @@
 use Rattle.std.proofs.Common.{ap, arith, sym, ◌∙◌}
 use Rattle.task_runtime.specs.Readies.{is_ready}
 use Rattle.task_runtime.specs.declared.effects.Act.TheVariants.{Ended}
+use Rattle.ceil_runtime.specs.Acted.{with_tasks}
 use Rattle.ceil_runtime.specs.Shown.{snapshot_of}
 use Rattle.ceil_runtime.proofs.ActedLaws.{acted-among, acted-few, acted-within, answered-acted, left-at-work, left-found, left-free}
 use Rattle.ceil_runtime.proofs.ActedLaws.{left-next, left-works}
 use Rattle.ceil_runtime.proofs.ActedLaws.{unserved-acted}
 use Rattle.ceil_runtime.proofs.EntrySteps.{waits-open}
+use Rattle.ceil_runtime.proofs.Phases.{telling}
 use Rattle.ceil_runtime.proofs.processor.Machine.answer.Goals as goal
 
 pub index_mut-active-requires : goal.index_mut-active-requires
@@ -80,15 +82,15 @@ pub returns-then-not-is_served : goal.returns-then-not-is_served
 returns-then-not-is_served c = λ ts t t' acted.
     let s = snapshot_of c.args.self.now in
     let x = c.index_mut-active.result.now in
-    unserved-acted ts s c.args.task c.args.target c.args.value t x _ _ (left-found ts s c.args.task c.args.target c.args.value t t' acted x
+    telling (with_tasks ts s) _ _ _ (unserved-acted ts s c.args.task c.args.target c.args.value t x _ _ (left-found ts s c.args.task c.args.target c.args.value t t' acted x
     c.index_mut-active.ensures.value c.go_outside.new.self c.go_outside.ensures.progress c.go_outside.ensures.task c.index_mut-asked.result.now
-    c.index_mut-asked.ensures.value) (sym c.is_served.ensures ∙ c.if-not-is_served.true)
+    c.index_mut-asked.ensures.value) (sym c.is_served.ensures ∙ c.if-not-is_served.true)) c.tell.ensures
 
 pub returns : goal.returns
 returns c = λ ts t t' acted.
     let s = snapshot_of c.args.self.now in
     let x = c.index_mut-active.result.now in
-    answered-acted ts s c.args.task c.args.target c.args.value t x _ _ (left-found ts s c.args.task c.args.target c.args.value t t' acted x
+    telling (with_tasks ts s) _ _ _ (answered-acted ts s c.args.task c.args.target c.args.value t x _ _ (left-found ts s c.args.task c.args.target c.args.value t t' acted x
     c.index_mut-active.ensures.value c.go_outside.new.self c.go_outside.ensures.progress c.go_outside.ensures.task c.index_mut-asked.result.now
     c.index_mut-asked.ensures.value) (sym c.is_served.ensures ∙ c.if-not-is_served.false) c.release.new.self c.release.ensures.task
-    c.release.ensures.thread c.release.ensures.works c.release.ensures.at_work c.push_tail.new.self c.push_tail.ensures
+    c.release.ensures.thread c.release.ensures.works c.release.ensures.at_work c.push_tail.new.self c.push_tail.ensures) c.tell_both.ensures

@@ -5,12 +5,11 @@ use Rattle.machine.specs.States as states
 use Rattle.linked_task.specs.Works.{task_of}
 use Rattle.ceil_runtime.specs.Shown.{snapshot_of}
 use Rattle.ceil_runtime.specs.Snapshots.{IsWholeAt}
-use Rattle.ceil_runtime.specs.Stepping.{Steps}
+use Rattle.ceil_runtime.specs.Stepping.{Nothing, Steps, StepsTelling}
 use Rattle.ceil_runtime.specs.declared.processor.Phase.TheVariants.{Arriving}
-use Rattle.ceil_runtime.specs.declared.processor.Told.TheVariants.{Nothing}
 use Rattle.ceil_runtime.proofs.Arrived.{is_of}
 use Rattle.ceil_runtime.proofs.Instants.{nobody-step}
-use Rattle.ceil_runtime.proofs.Phases.{in-phase}
+use Rattle.ceil_runtime.proofs.Phases.{in-phase, telling}
 use Rattle.ceil_runtime.proofs.processor.Machine.arrive.Goals as goal
 
 pub returns-in_default : goal.returns-in_default
@@ -21,11 +20,12 @@ returns-in_default c =
     let none : None ≡ option_map (λ (x : ℕ × states.Task). x.0) (first_where (is_of a.task) (map task_of s.tasks)) =
     c.in_default.ensures ∙ ap (λ ts. option_map (λ (x : ℕ × states.Task). x.0) (first_where (is_of a.task) (map task_of ts)))
     c.as_slice.ensures.value in
-    in-phase s Arriving c.requires.whole c.requires.phase c.requires.goes_on (λ x. Steps x Nothing (record x { arrivals = others }))
+    telling s _ Nothing _ (in-phase s Arriving c.requires.whole c.requires.phase c.requires.goes_on
+    (λ x. Steps x Nothing (record x { arrivals = others }))
     (λ whole. subst (λ as'. Steps (record s { phase = Arriving; stopped = false; arrivals = as' }) Nothing
     (record s { phase = Arriving; stopped = false; arrivals = others })) (sym c.requires.first)
     (nobody-step s a others (subst (λ as'. IsWholeAt (record s { phase = Arriving; stopped = false; arrivals = as' })) c.requires.first whole)
-    c.requires.now none))
+    c.requires.now none))) c.requires.empty
 
 pub ask_at-requires-clause-whole : goal.ask_at-requires-clause-whole
 ask_at-requires-clause-whole c =
@@ -39,4 +39,5 @@ ask_at-requires-clause-found c =
 pub returns : goal.returns
 returns c =
     let s = snapshot_of c.args.self.now in
-    subst (λ as'. Steps (record s { arrivals = as' }) c.ask_at.result (snapshot_of c.ask_at.new.self)) (sym c.requires.first) c.ask_at.ensures
+    subst (λ as'. StepsTelling (record s { arrivals = as' }) c.ask_at.new.events (snapshot_of c.ask_at.new.self)) (sym c.requires.first)
+    c.ask_at.ensures

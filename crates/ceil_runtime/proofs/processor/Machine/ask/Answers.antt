@@ -7,11 +7,10 @@ use Rattle.task_runtime.specs.declared.effects.Act.TheVariants as acts
 use Rattle.linked_task.specs.declared.piece.Deed.TheVariants.{Ask}
 use Rattle.ceil_runtime.specs.Acted.{with_tasks}
 use Rattle.ceil_runtime.specs.Shown.{snapshot_of}
-use Rattle.ceil_runtime.specs.Stepping.{Steps}
-use Rattle.ceil_runtime.specs.declared.processor.Told.TheVariants.{Nothing}
+use Rattle.ceil_runtime.specs.Stepping.{Nothing, Steps}
 use Rattle.ceil_runtime.proofs.ActedLaws.{acted-asks, acted-found, acted-whole, acted-within, ask-acted}
 use Rattle.ceil_runtime.proofs.EntrySteps.{doing-act, doing-first, stop-reached}
-use Rattle.ceil_runtime.proofs.Phases.{doing-here, doing-known, doing-piece, doing-there}
+use Rattle.ceil_runtime.proofs.Phases.{doing-here, doing-known, doing-piece, doing-there, telling}
 use Rattle.ceil_runtime.proofs.Reached.{among-tasks, asked-ceiling, asked-unit}
 use Rattle.linked_task.proofs.Shared.AtWork.{has-room, stays-asking}
 use Rattle.ceil_runtime.proofs.processor.Machine.ask.Goals as goal
@@ -42,11 +41,11 @@ returns-then-is_above c =
     let below = among-tasks s.units s.tasks h.acting.whole.sound.calls c.args.task t h.here k
     (stays-asking m.code t (h.acting.whole.at_work c.args.task t h.here) c.args.piece h.piece k h.deed).1 in
     let there = slice_get_read s.tasks (length s.tasks) k u refl below c.index-asked.ensures in
-    stop-reached s c.args.task c.args.piece (Ask k) t h (Control k) u.progress.stack.thread.unit c.ceiling_of-ceiling.result [] (deeds.Ask k)
+    telling s _ _ _ (stop-reached s c.args.task c.args.piece (Ask k) t h (Control k) u.progress.stack.thread.unit c.ceiling_of-ceiling.result [] (deeds.Ask k)
     (doing-first s c.args.task c.args.piece (Ask k) t h)
     (doing-act s c.args.task c.args.piece (Ask k) t h) (λ vars ps. refl) (asked-unit s.until s.costs s.units s.tasks k u there)
     (asked-ceiling s.until s.costs s.units s.tasks k u there ∙ sym c.ceiling_of-ceiling.ensures) (sym c.is_above.ensures ∙ c.if-is_above.true)
-    (inr (record { place = k; task = u; here = there; is_unit = refl })) c.stop.result (c.stop.ensures.told t h.here) _ c.stop.ensures.machine
+    (inr (record { place = k; task = u; here = there; is_unit = refl })) _ refl _ c.stop.ensures.machine) (c.stop.ensures.told t h.here)
 
 pub own_effect-requires-clause-acting : goal.own_effect-requires-clause-acting
 own_effect-requires-clause-acting c = c.requires.does.1.acting
@@ -101,5 +100,6 @@ returns c =
     let there = slice_get_read ts (length ts) k u refl below c.index-asked.ensures in
     let ceiling_is = asked-ceiling n.until n.costs n.units ts k u there ∙ sym c.ceiling_of-ceiling.ensures in
     let low = ap (λ v. nat_lt c.ceiling_of-ceiling.result v.active) (sym was) ∙ sym c.is_above.ensures ∙ c.if-is_above.false in
-    subst (λ y. Steps y Nothing (with_tasks (set n.tasks i c.go_inside.new.self) n)) (sym c.own_effect.ensures.before)
-    (ask-acted ts n i a.0 x k h c.go_inside.new.self c.go_inside.ensures.progress c.ceiling_of-ceiling.result ceiling_is c.go_inside.ensures.task low)
+    telling s _ Nothing _ (subst (λ y. Steps y Nothing (with_tasks (set n.tasks i c.go_inside.new.self) n)) (sym c.own_effect.ensures.before)
+    (ask-acted ts n i a.0 x k h c.go_inside.new.self c.go_inside.ensures.progress c.ceiling_of-ceiling.result ceiling_is c.go_inside.ensures.task low))
+    c.requires.empty

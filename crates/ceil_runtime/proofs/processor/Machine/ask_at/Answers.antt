@@ -2,11 +2,10 @@ use Rattle.std.proofs.Common.{ap, arith, set}
 use Rattle.trace_tree.specs.declared.event.Event.TheVariants as event
 use Rattle.task_runtime.specs.Readies.{is_ready}
 use Rattle.ceil_runtime.specs.Shown.{snapshot_of}
-use Rattle.ceil_runtime.specs.Stepping.{Steps, before_arrival}
+use Rattle.ceil_runtime.specs.Stepping.{before_arrival, One, Steps, Two}
 use Rattle.ceil_runtime.specs.declared.processor.Phase.TheVariants.{Arriving}
-use Rattle.ceil_runtime.specs.declared.processor.Told.TheVariants.{One, Two}
 use Rattle.ceil_runtime.proofs.Instants.{kept-step, reached, reached-at-work, reached-free, reached-next, reached-works, served-step}
-use Rattle.ceil_runtime.proofs.Phases.{in-phase, whole-phase}
+use Rattle.ceil_runtime.proofs.Phases.{in-phase, telling, whole-phase}
 use Rattle.ceil_runtime.proofs.processor.Machine.ask_at.Goals as goal
 
 pub index_mut-asked-requires : goal.index_mut-asked-requires
@@ -22,10 +21,11 @@ returns-in_default c =
     let s = snapshot_of c.args.self.now in
     let a = c.args.arrival in
     let t' = c.arrive.new.self in
-    in-phase (before_arrival a s) Arriving c.requires.whole c.requires.phase c.requires.goes_on
+    telling (before_arrival a s) _ (One (event.Arrive s.time a.task a.value)) _ (in-phase (before_arrival a s) Arriving c.requires.whole
+    c.requires.phase c.requires.goes_on
     (λ x. Steps x (One (event.Arrive s.time a.task a.value)) (record x { arrivals = s.arrivals; tasks = set s.tasks c.args.task t' }))
     (λ whole. kept-step s a s.arrivals whole c.requires.now c.args.task c.requires.found c.index_mut-asked.result.now c.index_mut-asked.ensures.value
-    t' c.arrive.ensures.task c.arrive.ensures.thread c.arrive.ensures.same c.arrive.ensures.progress c.in_default.not-Waiting)
+    t' c.arrive.ensures.task c.arrive.ensures.thread c.arrive.ensures.same c.arrive.ensures.progress c.in_default.not-Waiting)) c.tell.ensures
 
 pub release-requires-clause-rests : goal.release-requires-clause-rests
 release-requires-clause-rests c = ap is_ready c.in-Waiting.is
@@ -69,9 +69,10 @@ returns c =
     let t' = c.arrive.new.self in
     let t'' = c.release.new.self in
     let q' = c.push_tail.new.self in
-    in-phase (before_arrival a s) Arriving c.requires.whole c.requires.phase c.requires.goes_on
-    (λ x. Steps x (Two (event.Arrive s.time a.task a.value) (event.Release s.time t''.progress.stack.thread.unit a.value))
+    let both = Two (event.Arrive s.time a.task a.value) (event.Release s.time t''.progress.stack.thread.unit a.value) in
+    telling (before_arrival a s) _ both _ (in-phase (before_arrival a s) Arriving c.requires.whole c.requires.phase c.requires.goes_on
+    (λ x. Steps x both
     (record x { arrivals = s.arrivals; tasks = set s.tasks i t''; queues = q' }))
     (λ whole. served-step s a s.arrivals whole c.requires.now i c.requires.found c.index_mut-asked.result.now c.index_mut-asked.ensures.value t'
     c.arrive.ensures.task c.arrive.ensures.thread c.arrive.ensures.same c.in-Waiting.is t'' c.release.ensures.task c.release.ensures.thread
-    c.release.ensures.works c.arrive.ensures.progress c.release.ensures.at_work q' c.push_tail.ensures)
+    c.release.ensures.works c.arrive.ensures.progress c.release.ensures.at_work q' c.push_tail.ensures)) c.tell_both.ensures

@@ -19,6 +19,7 @@ pub act-requires : goal.act-requires
 act-requires c = record {
   does = doing-of (snapshot_of c.args.self.now) c.args.task c.requires.acting _ c.index.ensures c.args.piece Own c.requires.piece
       c.in-Own.ensures.deed c.in-Own.ensures.acts;
+  empty = c.requires.empty;
 }
 
 pub enter-requires : goal.enter-requires
@@ -37,6 +38,7 @@ pub ask-requires : goal.ask-requires
 ask-requires c = record {
   does = doing-of (snapshot_of c.args.self.now) c.args.task c.requires.acting _ c.index.ensures c.args.piece (Ask c.in-Ask.target)
       c.requires.piece c.in-Ask.ensures.deed c.in-Ask.ensures.acts;
+  empty = c.requires.empty;
 }
 
 pub returns-in-Own : goal.returns-in-Own

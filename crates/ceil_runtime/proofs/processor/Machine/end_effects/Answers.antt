@@ -1,7 +1,6 @@
 use Rattle.ceil_runtime.specs.Shown.{snapshot_of}
-use Rattle.ceil_runtime.specs.Stepping.{Steps}
+use Rattle.ceil_runtime.specs.Stepping.{Nothing, Steps}
 use Rattle.ceil_runtime.specs.declared.processor.Phase.TheVariants.{Delays}
-use Rattle.ceil_runtime.specs.declared.processor.Told.TheVariants.{Nothing}
 use Rattle.ceil_runtime.proofs.Effected.{running-free}
 use Rattle.ceil_runtime.proofs.Phases.{caller-here, in-acting, whole-acting}
 use Rattle.ceil_runtime.proofs.Stepped.{end-step}

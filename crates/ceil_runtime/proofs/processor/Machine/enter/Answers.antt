@@ -16,7 +16,7 @@ use Rattle.ceil_runtime.proofs.EntryFacts.{enters-there, found-op, found-shows, 
 use Rattle.ceil_runtime.proofs.EntrySteps.{doing-act, doing-first, enter-step, stop-reached}
 use Rattle.ceil_runtime.proofs.ObjectsKept.{changed-objects, entered-ceiling, entered-unit}
 use Rattle.ceil_runtime.proofs.Homes.{entered-names}
-use Rattle.ceil_runtime.proofs.Phases.{caller-at-work, caller-works, doing-here, doing-known, step-beside}
+use Rattle.ceil_runtime.proofs.Phases.{caller-at-work, caller-works, doing-here, doing-known, step-beside, telling}
 use Rattle.linked_task.proofs.Shared.AtWork.{has-room}
 use Rattle.ceil_runtime.proofs.processor.Machine.enter.Goals as goal
 
@@ -128,8 +128,8 @@ invariant_of-self-2-clause-known c =
     c.index_mut-object.ensures.value in
     changed-objects m.units.now m.objects.items e.object o _ f.there refl m.known
 
-pub overflow_cast-result : goal.overflow_cast-result
-overflow_cast-result c =
+pub overflow_cast-entry : goal.overflow_cast-entry
+overflow_cast-entry c =
     let m = c.args.self.now in
     let e = c.args.entry in
     let w = c.requires.does in
@@ -152,13 +152,13 @@ returns-then-is_above c =
     let f = met m i c.args.piece (Enter e) w e (enters-there m c.args.task c.args.piece e w.0 w.1) t c.index.ensures o c.index-object.ensures in
     let shows = found-shows m i t e o f in
     let act = doing-act s i c.args.piece (Enter e) t h in
-    stop-reached s i c.args.piece (Enter e) t h (Object e.object) o.unit o.ceiling
+    telling s _ _ _ (stop-reached s i c.args.piece (Enter e) t h (Object e.object) o.unit o.ceiling
     (event.Enter m.time t.progress.stack.thread.unit (object_unit (system_at s) e.object) e.place act.0 ∷ [])
     (deeds.Enter e.object e.place act.0) (doing-first s i c.args.piece (Enter e) t h) act.1 (λ vars ps. refl)
     (entered-unit m.until m.costs m.units.now m.tasks.items e.object f.found.entered.entered f.found.at o shows)
     (entered-ceiling m.until m.costs m.units.now m.tasks.items e.object f.found.entered.entered f.found.at o shows)
-    (sym c.is_above.ensures ∙ c.if-is_above.true) (inl (found-unit m i t e o f)) c.stop.result (c.stop.ensures.told t h.here) _
-    c.stop.ensures.machine
+    (sym c.is_above.ensures ∙ c.if-is_above.true) (inl (found-unit m i t e o f)) _ refl _
+    c.stop.ensures.machine) (c.stop.ensures.told t h.here)
 
 pub returns : goal.returns
 returns c =
@@ -181,9 +181,9 @@ returns c =
     let same_o = same_Some o0 o (sym before.there ∙ f.there) in
     let low = ap (λ x. nat_lt x.ceiling t.active) (sym same_o) ∙ ap (λ v. nat_lt o0.ceiling v.active)
     (sym same_t) ∙ sym c.is_above.ensures ∙ c.if-is_above.false in
-    step-beside s i h.acting _ _ refl refl refl
+    telling s _ _ _ (step-beside s i h.acting _ _ refl refl refl
     (λ whole. enter-step s i whole t h.here h.due t' c.go_inside.new.self c.enter-values.ensures.thread
     c.go_inside.ensures.progress c.enter-values.ensures.works c.enter-values.ensures.falls c.enter-values.ensures.at_work e.object e.place _
     f.found.entered.entered f.found.at
     m.objects.items refl o _ f.there (found-shows m i t e o f) (found-op m i t e o f) c.enter-values.ensures.enters c.enter-values.ensures.inside
-    (c.go_inside.ensures.task ∙ ap (λ x. inside_now (Object e.object) x.ceiling (task_of t')) same_o) low (ap vars_of c.enter-values.ensures.lent))
+    (c.go_inside.ensures.task ∙ ap (λ x. inside_now (Object e.object) x.ceiling (task_of t')) same_o) low (ap vars_of c.enter-values.ensures.lent))) c.tell.ensures

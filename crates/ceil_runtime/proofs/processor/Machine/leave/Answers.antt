@@ -4,7 +4,7 @@ use Rattle.ceil_runtime.specs.Shown.{snapshot_of}
 use Rattle.ceil_runtime.proofs.EntryFacts.{all-names, found-op, found-shows, leaves-there, met, met-within, place-few, same-count, same-names}
 use Rattle.ceil_runtime.proofs.EntrySteps.{leave-step}
 use Rattle.ceil_runtime.proofs.ObjectsKept.{changed-objects}
-use Rattle.ceil_runtime.proofs.Phases.{caller-at-work, caller-works, doing-here, doing-known, step-beside}
+use Rattle.ceil_runtime.proofs.Phases.{caller-at-work, caller-works, doing-here, doing-known, step-beside, telling}
 use Rattle.ceil_runtime.proofs.processor.Machine.leave.Goals as goal
 
 pub index_mut-object-requires : goal.index_mut-object-requires
@@ -87,8 +87,8 @@ invariant_of-self-clause-known c =
     c.index_mut-object.ensures.value in
     changed-objects m.units.now m.objects.items e.object o _ f.there refl m.known
 
-pub overflow_cast-result : goal.overflow_cast-result
-overflow_cast-result c =
+pub overflow_cast-entry : goal.overflow_cast-entry
+overflow_cast-entry c =
     let m = c.args.self.now in
     let e = c.args.entry in
     let w = c.requires.does in
@@ -110,9 +110,9 @@ returns c =
     let h = doing-here s i c.args.piece (Leave e) w t c.index_mut-caller.ensures.value in
     let f = met m i c.args.piece (Leave e) w e (leaves-there m c.args.task c.args.piece e w.0 w.1) t c.index_mut-caller.ensures.value o
     c.index_mut-object.ensures.value in
-    step-beside s i h.acting _ _ refl refl refl
+    telling s _ _ _ (step-beside s i h.acting _ _ refl refl refl
     (λ whole. leave-step s i whole t h.here h.due c.leave-values.new.self c.go_outside.new.self c.leave-values.ensures.thread
     c.go_outside.ensures.progress c.leave-values.ensures.works c.leave-values.ensures.falls c.leave-values.ensures.at_work e.object e.place _
     f.found.entered.entered f.found.at
     m.objects.items refl o _ f.there (found-shows m i t e o f) (found-op m i t e o f) c.leave-values.ensures.leaves c.leave-values.ensures.inside
-    c.go_outside.ensures.task)
+    c.go_outside.ensures.task)) c.tell.ensures

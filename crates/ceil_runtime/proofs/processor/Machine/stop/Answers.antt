@@ -1,7 +1,6 @@
-use Rattle.std.proofs.Common.{length, sym, ap, ◌∙◌, refl}
+use Rattle.std.proofs.Common.{length, sym, ap, ◌∙◌, refl, [], ◌∷◌}
 use Rattle.std.proofs.lemmas.Option.{same_Some, slice_get_read}
 use Rattle.trace_tree.specs.declared.event.Event.TheVariants as event
-use Rattle.ceil_runtime.specs.declared.processor.Told.TheVariants.{One}
 use Rattle.linked_task.specs.declared.task.Task.{Task}
 use Rattle.ceil_runtime.proofs.processor.Machine.stop.Goals as goal
 
@@ -13,4 +12,5 @@ returns-clause-told c = λ t at.
     let m = c.args.self.now in
     let caller = c.index-caller.result.now in
     let here = slice_get_read m.tasks.items (length m.tasks.items) c.args.task caller refl c.requires.known c.index-caller.ensures in
-    ap (λ (v : Task). One (event.Stop m.time v.progress.stack.thread.unit c.args.unit v.active c.args.ceiling)) (same_Some caller t (sym here ∙ at))
+    c.tell.ensures ∙ ap (λ (v : Task). event.Stop m.time v.progress.stack.thread.unit c.args.unit v.active c.args.ceiling ∷ [])
+    (same_Some caller t (sym here ∙ at))

@@ -1,9 +1,8 @@
 use Rattle.std.proofs.Common.{arith, None, set, Some, subst, ◌+◌}
 use Rattle.ceil_runtime.specs.Processing.{IsWithin}
 use Rattle.ceil_runtime.specs.Shown.{snapshot_of}
-use Rattle.ceil_runtime.specs.Stepping.{Steps}
+use Rattle.ceil_runtime.specs.Stepping.{Nothing, Steps}
 use Rattle.ceil_runtime.specs.declared.processor.Phase.TheVariants.{Effects, Use}
-use Rattle.ceil_runtime.specs.declared.processor.Told.TheVariants.{Nothing}
 use Rattle.ceil_runtime.proofs.Instants.{idle-step, use-step, using, using-small}
 use Rattle.ceil_runtime.proofs.Phases.{in-phase, whole-phase}
 use Rattle.ceil_runtime.proofs.processor.Machine.use_ticks.Goals as goal

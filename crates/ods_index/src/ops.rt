@@ -2,9 +2,8 @@ ghost use Rattle.std.specs.Prelude.{◌≡◌, ◌∷◌, ◌++◌, [], Some, No
 ghost use Rattle.seq_tree.specs.Calls.{same_op};
 ghost use Rattle.seq_tree.specs.declared.tree.OpName.{OpName};
 ghost use Rattle.name_sets.specs.Tables.{at};
-ghost use Rattle.seq_cost.specs.Different.{call_of};
-ghost use Rattle.ods_tree.specs.Links.{first_of, resolve};
-ghost use Rattle.ods_tree.specs.Trees.{design_of, provided_of};
+ghost use Rattle.ods_tree.specs.Links.{first_of};
+ghost use Rattle.ods_tree.specs.Trees.{provided_of};
 ghost use Rattle.ods_tree.specs.Walk.{is_terminal};
 ghost use Rattle.ods_index.specs.Linked.{op_of};
 ghost use Rattle.name_sets.specs.FirstPlaces.{op_place_from};
@@ -12,11 +11,10 @@ ghost use Rattle.ods_index.specs.OwnOps.{own_ops};
 ghost use Rattle.ods_index.specs.Walking.{standing_of};
 
 use crate::kinds::is_terminal;
-use crate::links::{Links, OpView};
+use crate::links::OpView;
 use crate::walk::Standing;
 use name_sets::OpTable;
 use ods_tree::Provided;
-use seq_cost::Call;
 use seq_tree::{Name, NoMemory};
 use std::alloc::Global;
 
@@ -85,15 +83,4 @@ pub fn op_places<'a>(alloc: Global, ops: &[OpView<'a>]) -> Result<OpTable<'a, us
         add_place(alloc, &mut places, op, place)?;
     }
     Ok(places)
-}
-
-/// The place of what a call means, where it is that of an operation.
-pub fn called_place<'a>(
-    links: &Links<'a>,
-    places: &OpTable<'a, usize>,
-    call: &Call<'a>,
-) -> Option<usize>
-    ensures { result ≡ at places.now (resolve (design_of links.now.design.now) (call_of call.entry.now)) }
-{
-    links.place(places, call.object, call.op)
 }

@@ -1,7 +1,7 @@
-//! The bodies of protected operations in a design, and the names by which ways of calls through these and threads are found.
+//! The names by which ways of calls through protected operations and threads of a design are found.
 //!
 //! It stands on the graph of calls of `ods_index`, the rules of `design_rules` and the callers of `call_graph`. Each call carries its promise by
-//! the definitions of its specs: all bodies in order, and of each what it calls.
+//! the definitions of its specs: the bodies of protected operations in order, and of each what it calls.
 //!
 //! Other crates may cite these proofs of it (`proofs/Shared`):
 //!
@@ -10,8 +10,6 @@
 //! - `Items`: items of lists that are made from others.
 #![tactic(auto)]
 
-mod held;
 mod keys;
 
-pub use held::bodies_of;
 pub use keys::{add_callers, any_sporadic, targets_of, thread_keys};

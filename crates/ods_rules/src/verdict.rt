@@ -78,15 +78,15 @@ fn asks_costs(rule: Rule) -> bool {
 }
 
 /// What the blocks of a design cost, where it was known or the rule that is judged now asks for it.
-fn priced_for<'a>(
+fn priced_for<'k, 'a>(
     alloc: Global,
-    index: &Index<'a>,
+    index: &'k Index<'a>,
     rule: Rule,
-    known: Option<Priced<'a>>,
-) -> Result<Option<Priced<'a>>, NoMemory>
+    known: Option<Priced<'k, 'a>>,
+) -> Result<Option<Priced<'k, 'a>>, NoMemory>
     requires indexed { IsIndex index.now }
     requires same { IfSome known (λ p. priced_design p ≡ design_of index.now.design.now) }
-    ensures { IfOk result (λ o. IfSome o (λ p. priced_design p ≡ design_of index.now.design.now)) }
+    ensures { IfOk result (λ o. IfSome o (λ p. priced_design p ≡ design_of index.entry.now.design.now)) }
 {
     if known.is_some() || !asks_costs(rule) {
         return Ok(known);
@@ -99,7 +99,7 @@ fn priced_for<'a>(
 fn judge_budgets<'a>(
     alloc: Global,
     index: &Index<'a>,
-    known: &Option<Priced<'a>>,
+    known: &Option<Priced<'_, 'a>>,
 ) -> Result<(), Broken>
     requires indexed { IsIndex index.now }
     requires same { IfSome known.now (λ p. priced_design p ≡ design_of index.now.design.now) }
@@ -118,7 +118,7 @@ fn judge_budgets<'a>(
 fn judge_sizes<'a>(
     alloc: Global,
     index: &Index<'a>,
-    known: &Option<Priced<'a>>,
+    known: &Option<Priced<'_, 'a>>,
 ) -> Result<(), Broken>
     requires indexed { IsIndex index.now }
     requires few { length (objects (design_of index.now.design.now)) < 4294967296 }
@@ -139,7 +139,7 @@ fn judge_sizes<'a>(
 fn judge<'a>(
     alloc: Global,
     index: &Index<'a>,
-    known: &Option<Priced<'a>>,
+    known: &Option<Priced<'_, 'a>>,
     rule: Rule,
 ) -> Result<(), Broken>
     requires indexed { IsIndex index.now }

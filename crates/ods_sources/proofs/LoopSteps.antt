@@ -1,5 +1,6 @@
--- A step of a loop that tells the first fault of items.
-use Rattle.std.proofs.Common.{◌≡◌, ℕ, ◌+◌, ◌<◌, Bool, true, false, List, length, drop, map, Option, Some, None, Err, get_or, ap, sym, subst, ◌∙◌}
+-- Steps of loops that tell the first fault of items, and that gather what items have.
+use Rattle.std.proofs.Common.{◌≡◌, ℕ, ◌+◌, ◌<◌, Bool, true, false, cond, List, [], ◌∷◌, length, drop, filter, flat_map, map, Option, Some, None, Err}
+use Rattle.std.proofs.Common.{append-nil, get_or, ap, sym, subst, ◌∙◌}
 use Rattle.std.specs.Prelude.{filter_map}
 use Rattle.std.specs.List.{cons_option}
 use Rattle.seq_tree.proofs.Shared.LoopSteps.{drop_step}
@@ -7,6 +8,10 @@ use Rattle.design_rules.specs.Broken.{Broken}
 use Rattle.ods_index.specs.Judging.{IsTold, Tells, head_of}
 use Rattle.ods_index.specs.Told.{told_of, is_memory}
 use Rattle.ods_index.specs.declared.broken.Broken as code
+
+-- an item that passes a test, by itself
+pub one_passes : {A B : Type 0} (f : A → List B) (p : A → Bool) (a : A) → p a ≡ true → f a ≡ flat_map f (filter p (a ∷ []))
+one_passes f p a e = sym (append-nil (f a)) ∙ ap (λ b. flat_map f (cond b (a ∷ []) [])) (sym e)
 
 -- nothing is told of an item, so that it is up to those behind it
 pub passed_step : {A O : Type 0} (f : O → Option Broken) (g : A → O) (xs : List A) (i : ℕ) (x : A) (all : Option Broken) → i < length xs

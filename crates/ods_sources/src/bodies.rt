@@ -44,24 +44,17 @@ impl<'k, 'a> Bodies<'k, 'a> {
         }
     }
 
-    /// Adds a body.
+    /// Adds a body, where its object is protected.
     #[tactic(auto, unfolding(crate::specs::Requested::bodies_at))]
     fn add(&mut self, alloc: Global, calls: &'k OpCalls<'a>) -> Result<(), NoMemory>
-        ensures { OnOk result ((n : OpTree) → bodies_at self.new n ≡ bodies_at self.old n ++ held_named n (calls_of calls.entry.now)) }
-    {
-        let more = vec![in alloc; Body { calls }]?;
-        self.bodies.extend(alloc, calls.object, calls.op, more)
-    }
-
-    /// Adds a body, where its object is protected.
-    fn add_held(&mut self, alloc: Global, calls: &'k OpCalls<'a>) -> Result<(), NoMemory>
         ensures { OnOk result ((n : OpTree) → bodies_at self.new n ≡ bodies_at self.old n
             ++ flat_map (held_named n) (filter is_held (calls_of calls.entry.now ∷ []))) }
     {
         if !is_protected(calls.kind) {
             return Ok(());
         }
-        self.add(alloc, calls)
+        let more = vec![in alloc; Body { calls }]?;
+        self.bodies.extend(alloc, calls.object, calls.op, more)
     }
 }
 
@@ -74,7 +67,7 @@ pub(crate) fn table_of<'k, 'a>(
 {
     let mut table = Bodies::new(alloc);
     'calls: for body in calls {
-        table.add_held(alloc, body)?;
+        table.add(alloc, body)?;
     }
     Ok(table)
 }

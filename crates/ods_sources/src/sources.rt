@@ -220,12 +220,8 @@ impl<'k, 'a> Shown<'k, 'a> {
     {
         let starts = Starts::new(alloc, index)?;
         let reached = starts.reached_by_any(alloc, threads.as_slice())?;
-        let once = Once::new(
-            alloc,
-            starts.links,
-            index.calls.as_slice(),
-            threads.as_slice(),
-        )?;
+        let calls = index.calls.as_slice();
+        let once = Once::new(alloc, starts.links, calls, threads.as_slice())?;
         Ok(Shown {
             starts,
             threads,

@@ -26,10 +26,10 @@ returns-clause-right c =
           ∙ ap (λ (os : List Object). list_any (λ o. reaches x o n) os) threads;
       once =
           λ n h. subst (λ (os : List Object). fold max 0 (map (requests_by x n) os) ≤ 1)
-          (ap (λ (ts : List (Bor Node)). map thread_of ts) c.as_slice-3.ensures.value ∙ threads) (c.in_ok-once.ensures.starts n h);
+          (ap (λ (ts : List (Bor Node)). map thread_of ts) c.as_slice-2.ensures.value ∙ threads) (c.in_ok-once.ensures.starts n h);
       alone =
           λ n h. subst (λ (os : List Object). length (filter (λ o. reaches x o n) os) ≤ 1)
-          (ap (λ (ts : List (Bor Node)). map thread_of ts) c.as_slice-3.ensures.value ∙ threads) (c.in_ok-once.ensures.sources n h);
+          (ap (λ (ts : List (Bor Node)). map thread_of ts) c.as_slice-2.ensures.value ∙ threads) (c.in_ok-once.ensures.sources n h);
       few =
           subst (λ (d : code.Design). length (thread_objects (design_of d)) < 4294967295) (sym c.in_ok-starts.ensures)
           (few-threads (design_of c.args.index.now.design.now) c.requires.few);
@@ -37,5 +37,5 @@ returns-clause-right c =
 
 pub new-requires-2 : goal.new-requires-2
 new-requires-2 c =
-    ap (λ (bs : List OpCalls). map calls_of bs) c.as_slice-2.ensures.value ∙ c.requires.indexed.called
+    ap (λ (bs : List OpCalls). map calls_of bs) c.as_slice-calls.ensures.value ∙ c.requires.indexed.called
     ∙ ap (λ (d : code.Design). design_calls (design_of d)) (sym c.in_ok-starts.ensures)

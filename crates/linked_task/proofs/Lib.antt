@@ -38,3 +38,4 @@ pub mod Skips
 pub mod Places
 pub mod Zeros
 pub mod Alongs
+mod AloneExamples

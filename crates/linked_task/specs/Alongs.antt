@@ -1,5 +1,5 @@
 -- A task that goes on alone: it uses the ticks of its pieces, up to a time, and does those that are nothing to others.
-use Rattle.std.specs.Prelude.{◌≡◌, ◌⊎◌, ℕ, zero, suc, ◌+◌, ◌<◌, ◌≤◌, min, Bool, true, false}
+use Rattle.std.specs.Prelude.{◌≡◌, ◌==◌, ◌&&◌, ◌⊎◌, ℕ, zero, suc, ◌+◌, ◌<◌, ◌≤◌, min, not, is_some, Bool, true, false, Option, None, Some}
 use Rattle.seq_tree.specs.declared.tree.Costs.{Costs}
 use Rattle.machine.specs.Deeds as deeds
 use Rattle.task_runtime.specs.Doing.{IsAmong, act_of}
@@ -8,12 +8,46 @@ use Rattle.task_runtime.specs.Works.{Acts, EffortFalls, StaysInside, used_ticks}
 use Rattle.task_runtime.specs.Written.{system_of}
 use Rattle.task_runtime.specs.declared.effects.Act.{Act}
 use Rattle.task_runtime.specs.declared.effects.Act.TheVariants.{Silent}
+use Rattle.linker.specs.Callees.{OpBody}
+use Rattle.linker.specs.declared.code.Ins.{Ins}
+use Rattle.linker.specs.declared.code.Ins.TheVariants as ins
 use Rattle.linker.specs.declared.program.LinkedUnits.{LinkedUnits}
+use Rattle.linked_task.specs.Doings.{owner_at}
 use Rattle.linked_task.specs.Goings.{Goes}
 use Rattle.linked_task.specs.Sounds.{IsAtWork}
 use Rattle.linked_task.specs.Works.{task_of}
+use Rattle.linked_task.specs.declared.piece.Piece as piece
+use Rattle.linked_task.specs.declared.piece.Piece.TheVariants as is
 use Rattle.linked_task.specs.declared.progress.Progress.{Progress}
 use Rattle.linked_task.specs.declared.task.Task.{Task}
+
+-- whether no protected object has an operation, by what stands at its place
+abbrev pub has_no_owner : Option OpBody → Bool
+has_no_owner None = true
+has_no_owner (Some b) = not (is_some b.owner)
+
+-- whether an instruction is nothing to others: it tells nothing, reaches no protected object and no task, and ends no activation
+abbrev pub is_alone : LinkedUnits → Ins → Bool
+is_alone c (ins.Put value) = false
+is_alone c (ins.Call op actuals outs) = has_no_owner (owner_at c op)
+is_alone c (ins.Request task value) = false
+is_alone c ins.Finish = false
+is_alone c _ = true
+
+-- whether a first piece is nothing to others
+abbrev pub goes_alone : LinkedUnits → Option piece.Piece → Bool
+goes_alone c None = false
+goes_alone c (Some (is.Here i)) = is_alone c i
+goes_alone c (Some (is.Turn counter start)) = true
+goes_alone c (Some _) = false
+
+-- whether a task can go on alone now: the ticks of such a piece are used
+abbrev pub can_go : LinkedUnits → Task → Bool
+can_go c t = (t.left == 0) && goes_alone c t.progress.piece
+
+-- a task of whose piece no tick is left, or more than there are up to this limit
+abbrev pub IsSpent : ℕ → ℕ → Task → Type 0
+IsSpent limit time t = (t.left ≡ 0) ⊎ (limit < time + t.left)
 
 -- a task whose first piece was nothing to others, where that is so; else nothing has changed
 abbrev pub MayGo : Bool → LinkedUnits → Progress → Progress → Type 0

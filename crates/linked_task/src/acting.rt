@@ -9,7 +9,7 @@ ghost use Rattle.task_runtime.specs.Readies.{is_ready};
 ghost use Rattle.task_runtime.specs.Stacked.{vars_of};
 ghost use Rattle.task_runtime.specs.Works.{Acts, EffortFalls, Enters, Leaves, StaysInside};
 ghost use Rattle.task_runtime.specs.Written.{system_of};
-ghost use Rattle.linked_task.specs.Alongs.{GoesAlong, MayAct, MayUse};
+ghost use Rattle.linked_task.specs.Alongs.{GoesAlong, IsSpent, MayAct, MayUse, can_go};
 ghost use Rattle.linked_task.specs.Doings.{IsDeed, IsEntry, StaysOutside};
 ghost use Rattle.linked_task.specs.Sounds.{IsAtWork, owner_of};
 ghost use Rattle.linked_task.specs.Works.{ActsAs, task_of};
@@ -68,7 +68,8 @@ impl<'a> Task<'a> {
         requires later { time ≤ limit }
         requires near { limit < 2 ^ 32 }
         requires small { self.old.used < 2 ^ 63 }
-        ensures { MayUse limit time self.old result self.new }
+        ensures uses { MayUse limit time self.old result self.new }
+        ensures spent { IsSpent limit result self.new }
     {
         let ticks = u64::from(self.left);
         if ticks == 0 {
@@ -87,7 +88,8 @@ impl<'a> Task<'a> {
         requires at_work { IsAtWork code.now self.old.progress }
         requires few { self.old.works < 2 ^ 63 }
         requires ticking { costs_break costs.now ≡ false }
-        ensures { MayAct result code.now costs.now self.old self.new }
+        ensures acts { MayAct result code.now costs.now self.old self.new }
+        ensures alone { result ≡ can_go code.now self.old }
     {
         if self.left != 0 {
             return false;
@@ -103,7 +105,7 @@ impl<'a> Task<'a> {
     }
 
     /// Goes on through pieces that are nothing to others, each as soon as its ticks are used, up to a time that no use of ticks passes: the time
-    /// then. Nothing else has changed.
+    /// then. Nothing else has changed. It stops only where the ticks of its piece don't end by that time, or its piece is something to others.
     pub fn go_alone(&mut self, costs: &Costs, code: &LinkedUnits<'a>, from: u64, limit: u64) -> u64
         requires at_work { IsAtWork code.now self.old.progress }
         requires later { from ≤ limit }
@@ -111,7 +113,9 @@ impl<'a> Task<'a> {
         requires used { self.old.used ≤ from }
         requires works { self.old.works ≤ from + min self.old.left 1 }
         requires ticking { costs_break costs.now ≡ false }
-        ensures { GoesAlong code.now costs.now limit from self.old result self.new }
+        ensures goes { GoesAlong code.now costs.now limit from self.old result self.new }
+        ensures spent { IsSpent limit result self.new }
+        ensures alone { can_go code.now self.new ≡ false }
     {
         let mut time = from;
         'pieces: loop {

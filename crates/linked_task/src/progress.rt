@@ -15,7 +15,7 @@ ghost use Rattle.task_runtime.specs.Effort.{IsLong, first_ticks, first_works};
 ghost use Rattle.task_runtime.specs.Fitting.{names_of};
 ghost use Rattle.task_runtime.specs.Stacked.{vars_of};
 ghost use Rattle.task_runtime.specs.Written.{block_of_thread, reserve, system_of, timing_of};
-ghost use Rattle.linked_task.specs.Alongs.{MayGo};
+ghost use Rattle.linked_task.specs.Alongs.{MayGo, goes_alone, has_no_owner, is_alone};
 ghost use Rattle.linked_task.specs.Doings.{DoesFirst, EndsBody, EntersFirst, IsDeed, IsEntry, Passes, StaysOutside, owner_at, piece_of};
 ghost use Rattle.linked_task.specs.Goings.{Goes, GoesOnAt, HasCalled, HasReturned};
 ghost use Rattle.linked_task.specs.Handing.{IsHanded};
@@ -522,7 +522,8 @@ impl<'a> Progress<'a> {
     #[inline(always)]
     pub fn act_alone(&mut self, code: &LinkedUnits<'a>) -> bool
         requires at_work { IsAtWork code.now self.old }
-        ensures { MayGo result code.now self.old self.new }
+        ensures goes { MayGo result code.now self.old self.new }
+        ensures alone { result ≡ goes_alone code.now self.old.piece }
     {
         let Some(piece) = self.piece else {
             return false;
@@ -545,7 +546,8 @@ impl<'a> Progress<'a> {
     fn act_alone_here(&mut self, code: &LinkedUnits<'a>, ins: Ins) -> bool
         requires at_work { IsAtWork code.now self.old }
         requires piece { self.old.piece ≡ Some (PieceIs.Here ins) }
-        ensures { MayGo result code.now self.old self.new }
+        ensures goes { MayGo result code.now self.old self.new }
+        ensures alone { result ≡ is_alone code.now ins }
     {
         match ins {
             Ins::Null => {
@@ -600,7 +602,8 @@ impl<'a> Progress<'a> {
     fn call_alone(&mut self, code: &LinkedUnits<'a>, op: u32, actuals: u32) -> bool
         requires at_work { IsAtWork code.now self.old }
         requires piece { (outs : ℕ) × (self.old.piece ≡ Some (PieceIs.Here (InsIs.Call op actuals outs))) }
-        ensures { MayGo result code.now self.old self.new }
+        ensures goes { MayGo result code.now self.old self.new }
+        ensures alone { result ≡ has_no_owner (owner_at code.now op) }
     {
         if let Some(_) = code.ops[op as usize].owner {
             return false;

@@ -34,7 +34,7 @@ returns c =
     let s = snapshot_of c.args.self.now in
     let i = c.args.task in
     let t = c.index_mut-active.result.now in
-    let g = c.go_alone-self.ensures in (
+    let g = c.go_alone-self.ensures.goes in (
       c.alone_until-limit.result,
       alone-along s i c.alone_until-limit.result c.requires.acting c.alone_until-limit.ensures t c.go_alone-self.new.self c.go_alone-self.result g.0
           (caller-here s i c.requires.acting t c.index_mut-active.ensures.value) g.1,

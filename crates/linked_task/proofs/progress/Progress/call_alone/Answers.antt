@@ -1,5 +1,6 @@
-use Rattle.std.proofs.Common.{length, refl, subst, sym, arith}
+use Rattle.std.proofs.Common.{length, refl, subst, sym, arith, ap, not, is_some, ◌∙◌}
 use Rattle.std.proofs.lemmas.Option.{slice_get_read}
+use Rattle.linked_task.specs.Alongs.{has_no_owner}
 use Rattle.linked_task.specs.Doings.{HasNoOwner}
 use Rattle.linked_task.proofs.Alongs.{call_goes}
 use Rattle.linked_task.proofs.Callings.{op_there}
@@ -22,8 +23,8 @@ call-requires-clause-lent c =
     (subst HasNoOwner (sym (owner_there code c.args.op c.index.result.now
     (slice_get_read ops (length ops) c.args.op c.index.result.now refl lt c.index.ensures))) c.in_default.is)
 
-pub returns : goal.returns
-returns c =
+pub returns-clause-goes : goal.returns-clause-goes
+returns-clause-goes c =
     let p = c.requires.piece in
     let code = c.args.code.now in
     let ops = code.ops.items in
@@ -31,3 +32,21 @@ returns c =
     call_goes code c.args.self.now c.call.new.self c.args.op c.call.result c.call.ensures
     (subst HasNoOwner (sym (owner_there code c.args.op c.index.result.now
     (slice_get_read ops (length ops) c.args.op c.index.result.now refl lt c.index.ensures))) c.in_default.is)
+
+pub returns-clause-alone : goal.returns-clause-alone
+returns-clause-alone c =
+    let p = c.requires.piece in
+    let code = c.args.code.now in
+    let ops = code.ops.items in
+    let lt = op_there code c.args.self.now c.requires.at_work c.args.op c.args.actuals p.0 p.1 in
+    sym (ap has_no_owner (owner_there code c.args.op c.index.result.now
+    (slice_get_read ops (length ops) c.args.op c.index.result.now refl lt c.index.ensures)) ∙ ap (λ o. not (is_some o)) c.in_default.is)
+
+pub returns-in-Some-clause-alone : goal.returns-in-Some-clause-alone
+returns-in-Some-clause-alone c =
+    let p = c.requires.piece in
+    let code = c.args.code.now in
+    let ops = code.ops.items in
+    let lt = op_there code c.args.self.now c.requires.at_work c.args.op c.args.actuals p.0 p.1 in
+    sym (ap has_no_owner (owner_there code c.args.op c.index.result.now
+    (slice_get_read ops (length ops) c.args.op c.index.result.now refl lt c.index.ensures)) ∙ ap (λ o. not (is_some o)) c.in-Some.is)

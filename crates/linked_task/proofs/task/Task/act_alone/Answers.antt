@@ -2,18 +2,18 @@ use Rattle.std.proofs.Common.{arith}
 use Rattle.linked_task.proofs.Alongs.{has_gone, not_gone, same_progress, silent_acts, silent_falls, silent_inside}
 use Rattle.linked_task.proofs.task.Task.act_alone.Goals as goal
 
-pub returns-then-not-act_alone : goal.returns-then-not-act_alone
-returns-then-not-act_alone c =
+pub returns-then-not-act_alone-clause-acts : goal.returns-then-not-act_alone-clause-acts
+returns-then-not-act_alone-clause-acts c =
     let m = c.args.self.now in
     let q = c.act_alone.new.self in
-    same_progress m q (not_gone c.act_alone.result c.args.code.now m.progress q c.act_alone.ensures c.if-not-act_alone.true) _ _ _ _ _
+    same_progress m q (not_gone c.act_alone.result c.args.code.now m.progress q c.act_alone.ensures.goes c.if-not-act_alone.true) _ _ _ _ _
 
-pub returns : goal.returns
-returns c =
+pub returns-clause-acts : goal.returns-clause-acts
+returns-clause-acts c =
     let code = c.args.code.now in
     let m = c.args.self.now in
     let q = c.act_alone.new.self in
-    let g = has_gone c.act_alone.result code m.progress q c.act_alone.ensures c.if-not-act_alone.false in
+    let g = has_gone c.act_alone.result code m.progress q c.act_alone.ensures.goes c.if-not-act_alone.false in
     let costs = c.args.costs.now in
     let d = c.duration-duration in
     let s = c.start-ticks in (

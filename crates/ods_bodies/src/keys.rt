@@ -10,7 +10,6 @@ ghost use Rattle.ods_tree.specs.Links.{resolve};
 ghost use Rattle.ods_tree.specs.Trees.{design_of};
 ghost use Rattle.design_rules.specs.Lookups.{is_sporadic};
 ghost use Rattle.ods_index.specs.Calling.{calls_of};
-ghost use Rattle.ods_index.specs.Linked.{op_of};
 ghost use Rattle.ods_index.specs.Nodes.{node_object};
 ghost use Rattle.ods_index.specs.Walking.{object_of};
 ghost use Rattle.ods_bodies.specs.Held.{is_held};
@@ -18,7 +17,7 @@ ghost use Rattle.ods_bodies.specs.Keys.{has_target, held_caller, is_target, key,
 
 use call_graph::{Caller, listed_calls};
 use name_sets::Places;
-use ods_index::{Links, OpCalls, OpView, Required, is_protected, is_sporadic};
+use ods_index::{Links, OpCalls, Required, is_protected, is_sporadic};
 use ods_tree::Node;
 use seq_cost::Call;
 use seq_tree::{Block, NoMemory};
@@ -61,14 +60,11 @@ pub fn any_sporadic(threads: &[&Node]) -> bool
 }
 
 /// The name by which the way of an operation is found: of all operations of a target one.
-fn key_of<'a>(targets: &Places<'a>, meant: OpView<'a>) -> Call<'a>
-    ensures { call_of result ≡ key targets.now (op_of meant.entry) }
+fn key_of<'a>(targets: &Places<'a>, meant: Call<'a>) -> Call<'a>
+    ensures { call_of result ≡ key targets.now (call_of meant.entry) }
 {
     match targets.get(meant.object) {
-        None => Call {
-            object: meant.object,
-            op: meant.op,
-        },
+        None => meant,
         Some(_) => Call {
             object: meant.object,
             op: meant.object,
@@ -91,10 +87,7 @@ fn add_key<'a>(
     if !needs.has(call) {
         return Ok(());
     }
-    let meant = links.resolve(OpView {
-        object: call.object,
-        op: call.op,
-    });
+    let meant = links.resolve(*call);
     into.push(key_of(targets, meant))?;
     Ok(())
 }
@@ -151,7 +144,7 @@ fn add_body<'a>(
     let calls = keys_of(alloc, targets, links, &body.needs, body.block)?;
     let from = key_of(
         targets,
-        OpView {
+        Call {
             object: body.object,
             op: body.op,
         },

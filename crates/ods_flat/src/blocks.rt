@@ -4,7 +4,8 @@ ghost use Rattle.ods_tree.specs.Links.{renamed, renamed_statement, resolve, reso
 ghost use Rattle.ods_tree.specs.Trees.{design_of};
 ghost use Rattle.ods_flat.specs.Renaming.{call_by, renamed_arm};
 
-use ods_index::{Links, OpView};
+use ods_index::Links;
+use seq_cost::Call;
 use seq_tree::{Arm, Block, Expr, Name, NoMemory, Stmt};
 use std::alloc::Global;
 
@@ -31,7 +32,7 @@ fn resolved_call<'a>(
         ≡ call_by (resolve (design_of links.now.design.now) (record { object = object.entry.now; op = op.entry.now }))
         (map expression_of actuals.entry.now)) }
 {
-    let meant = links.resolve(OpView { object, op });
+    let meant = links.resolve(Call { object, op });
     Ok(Stmt::Call {
         object: meant.object.copy(alloc)?,
         op: meant.op.copy(alloc)?,

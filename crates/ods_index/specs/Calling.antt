@@ -11,8 +11,8 @@ use Rattle.ods_tree.specs.Designs.{Body, Design, Object}
 use Rattle.ods_tree.specs.Links.{resolve}
 use Rattle.ods_tree.specs.Walk.{terminals}
 use Rattle.ods_tree.specs.declared.design.Kind.{Kind}
-use Rattle.ods_index.specs.Linked.{op_of}
 use Rattle.ods_index.specs.declared.calls.OpCalls.{OpCalls}
+use Rattle.seq_cost.specs.Different.{call_of}
 
 -- the body of an operation, with the kind of its object, what that requires, and what of it the body calls
 pub record Calls : Type 0 where
@@ -51,5 +51,5 @@ calls_of c = record {
   name = record { object = c.object.now; op = c.op.now };
   needs = c.needs.value.ops.now;
   block = block_of c.block.now;
-  meant = map op_of c.meant.items;
+  meant = map call_of c.meant.items;
 }

@@ -5,18 +5,15 @@ use Rattle.seq_tree.specs.Names.{Name}
 use Rattle.seq_tree.specs.declared.tree.OpName.{OpName}
 use Rattle.name_sets.specs.Tables.{named}
 use Rattle.name_sets.specs.declared.name_table.NameTable.{NameTable}
+use Rattle.seq_cost.specs.declared.written.Call.{Call}
+use Rattle.seq_cost.specs.Different.{call_of}
 use Rattle.ods_tree.specs.Designs.{Tree, Node}
 use Rattle.ods_tree.specs.Links.{child_op, link_for}
-use Rattle.ods_index.specs.declared.links.OpView.{OpView}
-
--- the operation that is meant
-abbrev pub op_of : OpView → OpName
-op_of o = record { object = o.object.now; op = o.op.now }
 
 -- what an operation of a tree's root stands for by its links
 abbrev pub by_links : Tree → Name → Option OpName
 by_links (Node own children) op = option_and_then (child_op children) (link_for op own.links)
 
 -- the terminal operation that is kept for an operation
-abbrev pub meaning_in : NameTable (Option OpView) → Name → Option OpName
-meaning_in t op = option_and_then (option_map op_of) (named t op)
+abbrev pub meaning_in : NameTable (Option Call) → Name → Option OpName
+meaning_in t op = option_and_then (option_map call_of) (named t op)

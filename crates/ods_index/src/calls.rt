@@ -7,11 +7,10 @@ ghost use Rattle.ods_tree.specs.Links.{resolve};
 ghost use Rattle.ods_tree.specs.Trees.{body_of, design_of};
 ghost use Rattle.ods_tree.specs.Walk.{is_terminal};
 ghost use Rattle.ods_index.specs.Calling.{body_calls, calls_of, object_calls, required_calls};
-ghost use Rattle.ods_index.specs.Linked.{op_of};
 ghost use Rattle.ods_index.specs.Walking.{object_of, standing_of};
 
 use crate::kinds::is_terminal;
-use crate::links::{Links, OpView};
+use crate::links::Links;
 use crate::required::Required;
 use crate::walk::Standing;
 use ods_tree::{Kind, Node, OpBody};
@@ -28,7 +27,7 @@ pub struct OpCalls<'a> {
     pub op: &'a Name,
     pub needs: Rc<Required<'a>>,
     pub block: &'a Block,
-    pub meant: Vec<OpView<'a>>,
+    pub meant: Vec<Call<'a>>,
 }
 
 /// Adds what a call means, where it is required.
@@ -36,18 +35,15 @@ fn add_meant<'a>(
     links: &Links<'a>,
     needs: &Required<'a>,
     call: &Call<'a>,
-    into: &mut Vec<OpView<'a>>,
+    into: &mut Vec<Call<'a>>,
 ) -> Result<(), NoMemory>
-    ensures { OnOk result (map op_of into.new.items ≡ map op_of into.old.items
+    ensures { OnOk result (map call_of into.new.items ≡ map call_of into.old.items
         ++ map (resolve (design_of links.now.design.now)) (filter (λ c. list_any (same_op c) needs.now.ops.now) (call_of call.entry.now ∷ []))) }
 {
     if !needs.has(call) {
         return Ok(());
     }
-    into.push(links.resolve(OpView {
-        object: call.object,
-        op: call.op,
-    }))?;
+    into.push(links.resolve(*call))?;
     Ok(())
 }
 
@@ -56,9 +52,9 @@ fn add_all_meant<'a>(
     links: &Links<'a>,
     needs: &Required<'a>,
     calls: &[Call<'a>],
-    into: &mut Vec<OpView<'a>>,
+    into: &mut Vec<Call<'a>>,
 ) -> Result<(), NoMemory>
-    ensures { OnOk result (map op_of into.new.items ≡ map op_of into.old.items
+    ensures { OnOk result (map call_of into.new.items ≡ map call_of into.old.items
         ++ map (resolve (design_of links.now.design.now)) (filter (λ c. list_any (same_op c) needs.now.ops.now) (map call_of calls.entry.now))) }
 {
     'calls: for call in calls {
@@ -73,8 +69,8 @@ pub fn meant_calls<'a>(
     links: &Links<'a>,
     needs: &Required<'a>,
     block: &'a Block,
-) -> Result<Vec<OpView<'a>>, NoMemory>
-    ensures { IfOk result (λ v. map op_of v.items
+) -> Result<Vec<Call<'a>>, NoMemory>
+    ensures { IfOk result (λ v. map call_of v.items
         ≡ required_calls (design_of links.now.design.now) needs.now.ops.now (block_of block.entry.now)) }
 {
     let calls = written_calls(alloc, block)?;

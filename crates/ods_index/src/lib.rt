@@ -34,7 +34,7 @@ pub use kinds::{
     has_thread, is_empty, is_idle_active, is_passive, is_protected, is_sporadic, is_terminal,
     kind_place,
 };
-pub use links::{Links, OpView};
+pub use links::Links;
 pub use ops::{op_places, ops_of};
 pub use required::Required;
 pub use scopes::Scope;

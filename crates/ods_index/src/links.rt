@@ -3,21 +3,16 @@ ghost use Rattle.seq_tree.specs.Names.{Name as NameTree};
 ghost use Rattle.name_sets.specs.Tables.{at};
 ghost use Rattle.ods_tree.specs.Links.{inner_named, link_for, resolve, tree_named};
 ghost use Rattle.ods_tree.specs.Trees.{design_of, tree_of, trees_of};
-ghost use Rattle.ods_index.specs.Linked.{meaning_in, op_of};
+ghost use Rattle.ods_index.specs.Linked.{meaning_in};
 ghost use Rattle.ods_index.specs.Scoped.{AreChildren, AreNamed, Covers, Keeps, inner_of, meaning_at, scope_trees};
+ghost use Rattle.seq_cost.specs.Different.{call_of};
 
 use crate::scopes::Scope;
 use name_sets::{NameTable, OpTable, Places};
 use ods_tree::{Design, Link, Node};
+use seq_cost::Call;
 use seq_tree::{Name, NoMemory};
 use std::alloc::Global;
-
-/// An operation, by its object and its own name.
-#[derive(Clone, Copy)]
-pub struct OpView<'a> {
-    pub object: &'a Name,
-    pub op: &'a Name,
-}
 
 /// The terminal operation that an operation of an object stands for, where the object has a place and its links lead to one.
 fn meaning<'a>(
@@ -25,8 +20,8 @@ fn meaning<'a>(
     places: &Places<'a>,
     object: &Name,
     op: &'a Name,
-) -> Option<OpView<'a>>
-    ensures { option_map op_of result ≡ meaning_at (scope_trees scopes.now) places.now object.now op.entry.now }
+) -> Option<Call<'a>>
+    ensures { option_map call_of result ≡ meaning_at (scope_trees scopes.now) places.now object.now op.entry.now }
 {
     match places.get(object) {
         None => None,
@@ -63,7 +58,7 @@ fn meanings_of<'a>(
     scopes: &[Scope<'a>],
     children: &Places<'a>,
     links: &'a [Link],
-) -> Result<NameTable<'a, Option<OpView<'a>>>, NoMemory>
+) -> Result<NameTable<'a, Option<Call<'a>>>, NoMemory>
     ensures { IfOk result (λ m. (op : NameTree) → meaning_in m op
         ≡ option_and_then (λ to. meaning_at (scope_trees scopes.now) children.now to.object to.op) (link_for op links.entry.now)) }
 {
@@ -164,8 +159,8 @@ impl<'a> Links<'a> {
     }
 
     /// What a call means; a name that leads nowhere means itself.
-    pub fn resolve(&self, name: OpView<'a>) -> OpView<'a>
-        ensures { op_of result ≡ resolve (design_of self.now.design.now) (op_of name.entry) }
+    pub fn resolve(&self, name: Call<'a>) -> Call<'a>
+        ensures { call_of result ≡ resolve (design_of self.now.design.now) (call_of name.entry) }
     {
         match meaning(self.scopes.as_slice(), &self.names, name.object, name.op) {
             None => name,

@@ -18,8 +18,6 @@ use Rattle.design_rules.specs.Rings.{CallsOp, calls_from, meant_calls, operation
 use Rattle.design_rules.specs.Rules.{Fitting, RingedOp}
 use Rattle.ods_index.specs.Judging.{Passes, Tells, Judges, IsTold, IsToldFirst, IsFirstOffender}
 use Rattle.ods_index.specs.Told.{told_of, is_memory}
-use Rattle.ods_index.specs.Linked.{op_of}
-use Rattle.ods_index.specs.declared.links.OpView.{OpView}
 use Rattle.ods_index.specs.declared.broken.Broken as code
 use Rattle.ods_rings.specs.Graphed.{body_edges}
 use Rattle.ods_bodies.proofs.Shared.Items.{In, any-in, from-filter, from-flat, in-filter, in-flat, in-map, in-taken, some-in}
@@ -33,6 +31,8 @@ use Rattle.rings.specs.Reached.{Goes, IsFirstOnRing}
 use Rattle.seq_tree.specs.Rings.{IsOnRing}
 use Rattle.ods_rings.proofs.BodyEdges.{body-from, body-in, call-of, calls-in, edge-of}
 use Rattle.ods_rings.proofs.NamePlaces.{op-in}
+use Rattle.seq_cost.specs.Different.{call_of}
+use Rattle.seq_cost.specs.declared.written.Call.{Call}
 
 -- a call by the body that it stands in
 pub record Called (x : Design) (a c : OpName) : Type 0 where
@@ -193,8 +193,8 @@ tells-first Offender (Err e) told h first = by (is_memory e) (told_of e) h
     by false (Some other) k = (let z : told ≡ other = cc in let P : Broken → Type 0 = λ b. IsFirstOffender Offender b in subst P z first)
 
 -- the parts of the graph as the code has them
-pub ops-same : (x : Design) (views : List OpView) (seen : List Standing) → map op_of views ≡ flat_map own_ops (filter is_terminal seen) → seen
-    ≡ objects x → map op_of views ≡ terminal_ops x
+pub ops-same : (x : Design) (views : List Call) (seen : List Standing) → map call_of views ≡ flat_map own_ops (filter is_terminal seen) → seen
+    ≡ objects x → map call_of views ≡ terminal_ops x
 ops-same x views seen made same = made ∙ ap (λ ss. flat_map own_ops (filter is_terminal ss)) same
 
 pub told-by : (result : Result (Unit {0}) code.Broken) (wanted : Option Broken) (told : Broken) → Tells result wanted → wanted ≡ Some told

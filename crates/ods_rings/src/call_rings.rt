@@ -4,19 +4,20 @@ ghost use Rattle.design_rules.specs.Broken.{V09Calls};
 ghost use Rattle.design_rules.specs.Rules.{CallRing, RingedOp};
 ghost use Rattle.ods_index.specs.Indexing.{IsIndex};
 ghost use Rattle.ods_index.specs.Judging.{Judges, PassesBefore, Tells};
-ghost use Rattle.ods_index.specs.Linked.{op_of};
 ghost use Rattle.ods_rings.specs.Graphed.{calls_step};
 ghost use Rattle.rings.specs.Reached.{IsFirstOnRing};
+ghost use Rattle.seq_cost.specs.Different.{call_of};
 
 use crate::edges::edges_of;
-use ods_index::{Broken, Index, OpView, op_places, ops_of};
+use ods_index::{Broken, Index, op_places, ops_of};
 use rings::first_on_ring;
+use seq_cost::Call;
 use seq_tree::{NoMemory, OpName};
 use std::alloc::Global;
 
 /// Tells an operation on a ring of calls, by its place.
-fn tell_op(alloc: Global, ops: &[OpView<'_>], place: usize) -> Result<(), Broken>
-    ensures { Tells result (option_map (λ o. V09Calls (op_of o)) (slice_get ops.now place)) }
+fn tell_op(alloc: Global, ops: &[Call<'_>], place: usize) -> Result<(), Broken>
+    ensures { Tells result (option_map (λ o. V09Calls (call_of o)) (slice_get ops.now place)) }
 {
     let Some(op) = ops.get(place) else {
         return Ok(());
@@ -32,10 +33,10 @@ fn tell_op(alloc: Global, ops: &[OpView<'_>], place: usize) -> Result<(), Broken
 fn first_ringed<'a>(
     alloc: Global,
     index: &Index<'a>,
-    ops: &[OpView<'a>],
+    ops: &[Call<'a>],
 ) -> Result<Option<usize>, NoMemory>
     requires { IsIndex index.now }
-    ensures { IfOk result (IsFirstOnRing (calls_step (design_of index.entry.now.design.now) (map op_of ops.entry.now))) }
+    ensures { IfOk result (IsFirstOnRing (calls_step (design_of index.entry.now.design.now) (map call_of ops.entry.now))) }
 {
     let places = op_places(alloc, ops)?;
     let edges = edges_of(alloc, &places, index.calls.as_slice())?;

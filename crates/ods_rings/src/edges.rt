@@ -1,12 +1,13 @@
 ghost use Rattle.std.specs.Prelude.{◌≡◌, ◌∷◌, ◌++◌, [], ℕ, None, Option, IfOk, OnOk, flat_map, map};
 ghost use Rattle.name_sets.specs.Tables.{at};
 ghost use Rattle.ods_index.specs.Calling.{Calls, calls_of};
-ghost use Rattle.ods_index.specs.Linked.{op_of};
 ghost use Rattle.ods_rings.specs.Graphed.{body_edges, edges_to};
+ghost use Rattle.seq_cost.specs.Different.{call_of};
 
 use call_graph::CallPlaces;
 use name_sets::OpTable;
-use ods_index::{OpCalls, OpView};
+use ods_index::OpCalls;
+use seq_cost::Call;
 use seq_tree::NoMemory;
 use std::alloc::Global;
 
@@ -35,10 +36,10 @@ impl BodyPlaces for OpTable<'_, usize> {
 fn add_edge<P: CallPlaces>(
     places: &P,
     from: usize,
-    op: &OpView<'_>,
+    op: &Call<'_>,
     edges: &mut Vec<(usize, usize)>,
 ) -> Result<(), NoMemory>
-    ensures { OnOk result (edges.new.items ≡ edges.old.items ++ edges_to (P.places places.now) from (op_of op.now ∷ [])) }
+    ensures { OnOk result (edges.new.items ≡ edges.old.items ++ edges_to (P.places places.now) from (call_of op.now ∷ [])) }
 {
     match places.place(op.object, op.op) {
         None => Ok(()),
@@ -53,10 +54,10 @@ fn add_edge<P: CallPlaces>(
 pub(crate) fn add_edges<P: CallPlaces>(
     places: &P,
     from: usize,
-    ops: &[OpView<'_>],
+    ops: &[Call<'_>],
     edges: &mut Vec<(usize, usize)>,
 ) -> Result<(), NoMemory>
-    ensures { OnOk result (edges.new.items ≡ edges.old.items ++ edges_to (P.places places.now) from (map op_of ops.now)) }
+    ensures { OnOk result (edges.new.items ≡ edges.old.items ++ edges_to (P.places places.now) from (map call_of ops.now)) }
 {
     'ops: for op in ops {
         add_edge(places, from, op, edges)?;

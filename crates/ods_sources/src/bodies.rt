@@ -1,12 +1,13 @@
 ghost use Rattle.std.specs.Prelude.{◌≡◌, ◌∷◌, ◌++◌, [], IfOk, OnOk, filter, flat_map, map, option_map, unwrap_or};
 ghost use Rattle.seq_tree.specs.declared.tree.OpName.{OpName as OpTree};
 ghost use Rattle.ods_index.specs.Calling.{calls_of};
-ghost use Rattle.ods_index.specs.Linked.{op_of};
 ghost use Rattle.ods_bodies.specs.Held.{is_held};
 ghost use Rattle.ods_sources.specs.Requested.{bodies_at, held_named, held_of};
+ghost use Rattle.seq_cost.specs.Different.{call_of};
 
 use name_sets::OpTable;
-use ods_index::{OpCalls, OpView, is_protected};
+use ods_index::{OpCalls, is_protected};
+use seq_cost::Call;
 use seq_tree::NoMemory;
 use std::alloc::Global;
 
@@ -35,8 +36,8 @@ impl<'k, 'a> Bodies<'k, 'a> {
 
     /// The bodies of an operation, where there is one.
     #[tactic(auto, unfolding(crate::specs::Requested::bodies_at))]
-    pub(crate) fn get(&self, op: &OpView<'a>) -> Option<&[Body<'k, 'a>]>
-        ensures { unwrap_or (option_map (λ v. map held_of v.now) result) [] ≡ bodies_at self.now (op_of op.entry.now) }
+    pub(crate) fn get(&self, op: &Call<'a>) -> Option<&[Body<'k, 'a>]>
+        ensures { unwrap_or (option_map (λ v. map held_of v.now) result) [] ≡ bodies_at self.now (call_of op.entry.now) }
     {
         match self.bodies.find(op.object, op.op) {
             None => None,

@@ -2,14 +2,15 @@ ghost use Rattle.std.specs.Prelude.{◌≡◌, ◌∷◌, ◌++◌, [], IfOk, On
 ghost use Rattle.seq_tree.specs.Names.{Name as NameTree};
 ghost use Rattle.seq_tree.specs.declared.tree.OpName.{OpName as OpTree};
 ghost use Rattle.ods_index.specs.Calling.{calls_of};
-ghost use Rattle.ods_index.specs.Linked.{op_of};
 ghost use Rattle.ods_bodies.specs.Held.{is_held};
 ghost use Rattle.ods_sources.specs.Requested.{object_caller, object_callers, op_caller, op_callers};
 ghost use Rattle.ods_starts.specs.Spreading.{body_at, found_all, inner_at, spread};
+ghost use Rattle.seq_cost.specs.Different.{call_of};
 
 use name_sets::Ops;
-use ods_index::{OpCalls, OpView, is_protected};
+use ods_index::{OpCalls, is_protected};
 use ods_starts::{BodyCalls, Inner, find_all, follow_all, search};
+use seq_cost::Call;
 use seq_tree::{Name, NoMemory};
 use std::alloc::Global;
 
@@ -33,11 +34,11 @@ impl<'a> Callers<'a> {
     }
 
     /// Adds a call.
-    fn add_call(&mut self, alloc: Global, from: OpView<'a>, to: &OpView<'a>) -> Result<(), NoMemory>
+    fn add_call(&mut self, alloc: Global, from: Call<'a>, to: &Call<'a>) -> Result<(), NoMemory>
         ensures ops { OnOk result ((n : OpTree) → inner_at self.new.ops n ≡ inner_at self.old.ops n
-            ++ op_caller n (op_of from.entry) (op_of to.entry.now)) }
+            ++ op_caller n (call_of from.entry) (call_of to.entry.now)) }
         ensures objects { OnOk result ((n : NameTree) → body_at self.new.objects n ≡ body_at self.old.objects n
-            ++ object_caller n (op_of from.entry) (op_of to.entry.now)) }
+            ++ object_caller n (call_of from.entry) (call_of to.entry.now)) }
     {
         let caller = [from];
         self.ops.add(alloc, to.object, to.op, &caller)?;
@@ -49,13 +50,13 @@ impl<'a> Callers<'a> {
     fn add_calls(
         &mut self,
         alloc: Global,
-        from: OpView<'a>,
-        calls: &[OpView<'a>],
+        from: Call<'a>,
+        calls: &[Call<'a>],
     ) -> Result<(), NoMemory>
         ensures ops { OnOk result ((n : OpTree) → inner_at self.new.ops n ≡ inner_at self.old.ops n
-            ++ flat_map (op_caller n (op_of from.entry)) (map op_of calls.entry.now)) }
+            ++ flat_map (op_caller n (call_of from.entry)) (map call_of calls.entry.now)) }
         ensures objects { OnOk result ((n : NameTree) → body_at self.new.objects n ≡ body_at self.old.objects n
-            ++ flat_map (object_caller n (op_of from.entry)) (map op_of calls.entry.now)) }
+            ++ flat_map (object_caller n (call_of from.entry)) (map call_of calls.entry.now)) }
     {
         'calls: for to in calls {
             self.add_call(alloc, from, to)?;
@@ -73,7 +74,7 @@ impl<'a> Callers<'a> {
         if !is_protected(body.kind) {
             return Ok(());
         }
-        let from = OpView {
+        let from = Call {
             object: body.object,
             op: body.op,
         };
@@ -95,12 +96,8 @@ impl<'a> Callers<'a> {
 
     /// The operations that call one of an object, each once.
     #[tactic(auto, using(ods_starts::proofs::Shared::SpreadLaws::spread_laws))]
-    pub(crate) fn of_object(
-        &self,
-        alloc: Global,
-        object: &Name,
-    ) -> Result<Vec<OpView<'a>>, NoMemory>
-        ensures { IfOk result (λ v. map op_of v.items ≡ found_all [] (body_at self.now.objects object.now)) }
+    pub(crate) fn of_object(&self, alloc: Global, object: &Name) -> Result<Vec<Call<'a>>, NoMemory>
+        ensures { IfOk result (λ v. map call_of v.items ≡ found_all [] (body_at self.now.objects object.now)) }
     {
         let mut seen = Ops::new(alloc);
         let mut found = Vec::new(alloc);
@@ -119,8 +116,8 @@ impl<'a> Callers<'a> {
         alloc: Global,
         depth: usize,
         object: &Name,
-    ) -> Result<Vec<OpView<'a>>, NoMemory>
-        ensures { IfOk result (λ v. map op_of v.items
+    ) -> Result<Vec<Call<'a>>, NoMemory>
+        ensures { IfOk result (λ v. map call_of v.items
             ≡ spread (inner_at self.now.ops) depth 0 (found_all [] (body_at self.now.objects object.now))) }
     {
         match self.objects.get(object) {
@@ -130,12 +127,8 @@ impl<'a> Callers<'a> {
     }
 
     /// The operations that call one of these, each once.
-    pub(crate) fn of_ops(
-        &self,
-        alloc: Global,
-        ops: &[OpView<'a>],
-    ) -> Result<Vec<OpView<'a>>, NoMemory>
-        ensures { IfOk result (λ v. map op_of v.items ≡ found_all [] (flat_map (inner_at self.now.ops) (map op_of ops.entry.now))) }
+    pub(crate) fn of_ops(&self, alloc: Global, ops: &[Call<'a>]) -> Result<Vec<Call<'a>>, NoMemory>
+        ensures { IfOk result (λ v. map call_of v.items ≡ found_all [] (flat_map (inner_at self.now.ops) (map call_of ops.entry.now))) }
     {
         let mut seen = Ops::new(alloc);
         let mut found = Vec::new(alloc);

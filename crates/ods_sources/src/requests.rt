@@ -7,7 +7,6 @@ ghost use Rattle.name_sets.specs.Tables.{at};
 ghost use Rattle.seq_cost.specs.Different.{call_of};
 ghost use Rattle.ods_tree.specs.Trees.{design_of};
 ghost use Rattle.design_rules.specs.Sources.{starts_within};
-ghost use Rattle.ods_index.specs.Linked.{op_of};
 ghost use Rattle.ods_sources.specs.Requested.{Knows, block_count, bodies_at, call_weight, changes, greatest_count, held_named, held_of, known_in};
 ghost use Rattle.ods_bodies.specs.Held.{held_bodies};
 ghost use Rattle.ods_sources.specs.Requesters.{HasCallers};
@@ -15,7 +14,7 @@ ghost use Rattle.ods_sources.specs.Requesters.{HasCallers};
 use crate::bodies::{Bodies, Body};
 use crate::callers::Callers;
 use name_sets::OpTable;
-use ods_index::{Links, OpView, Required};
+use ods_index::{Links, Required};
 use seq_cost::{Call, counted_by, written_calls};
 use seq_tree::{Block, Name, NoMemory};
 use std::alloc::Global;
@@ -33,10 +32,7 @@ fn weight_of<'a>(
     if !needs.has(call) {
         return 0;
     }
-    let to = links.resolve(OpView {
-        object: call.object,
-        op: call.op,
-    });
+    let to = links.resolve(*call);
     if to.object.bytes() == target.bytes() {
         return 1;
     }
@@ -109,10 +105,10 @@ fn count_of<'a>(
     target: &Name,
     known: &OpTable<'a, u32>,
     bodies: &Bodies<'_, 'a>,
-    op: &OpView<'a>,
+    op: &Call<'a>,
 ) -> Result<u32, NoMemory>
     ensures { IfOk result (λ n. (inner : OpTree → ℕ) → Knows known.now inner → n
-        ≡ min 2 (greatest_count (design_of links.now.design.now) target.now inner (bodies_at bodies.now (op_of op.entry.now)))) }
+        ≡ min 2 (greatest_count (design_of links.now.design.now) target.now inner (bodies_at bodies.now (call_of op.entry.now)))) }
 {
     match bodies.get(op) {
         None => Ok(0),
@@ -127,10 +123,10 @@ fn counts_of<'a>(
     target: &Name,
     known: &OpTable<'a, u32>,
     bodies: &Bodies<'_, 'a>,
-    ops: &[OpView<'a>],
+    ops: &[Call<'a>],
 ) -> Result<OpTable<'a, u32>, NoMemory>
     ensures { IfOk result (λ t. (inner : OpTree → ℕ) → Knows known.now inner → (n : OpTree) → at t n
-        ≡ (if list_any (λ c. same_op c n) (map op_of ops.entry.now)
+        ≡ (if list_any (λ c. same_op c n) (map call_of ops.entry.now)
         then Some (min 2 (greatest_count (design_of links.now.design.now) target.now inner (bodies_at bodies.now n))) else None)) }
 {
     let mut counts = OpTable::new(alloc);
@@ -142,8 +138,8 @@ fn counts_of<'a>(
 }
 
 /// Whether two tables count differently for an operation.
-fn changes<'a>(known: &OpTable<'a, u32>, counts: &OpTable<'a, u32>, op: &OpView<'a>) -> bool
-    ensures { result ≡ changes known.now counts.now (op_of op.entry.now) }
+fn changes<'a>(known: &OpTable<'a, u32>, counts: &OpTable<'a, u32>, op: &Call<'a>) -> bool
+    ensures { result ≡ changes known.now counts.now (call_of op.entry.now) }
 {
     let before = known.get(op.object, op.op).unwrap_or(0);
     let after = counts.get(op.object, op.op).unwrap_or(0);
@@ -154,10 +150,10 @@ fn changes<'a>(known: &OpTable<'a, u32>, counts: &OpTable<'a, u32>, op: &OpView<
 fn add_changed<'a>(
     known: &OpTable<'a, u32>,
     counts: &OpTable<'a, u32>,
-    op: &OpView<'a>,
-    into: &mut Vec<OpView<'a>>,
+    op: &Call<'a>,
+    into: &mut Vec<Call<'a>>,
 ) -> Result<(), NoMemory>
-    ensures { OnOk result (map op_of into.new.items ≡ map op_of into.old.items ++ filter (changes known.now counts.now) (op_of op.entry.now ∷ [])) }
+    ensures { OnOk result (map call_of into.new.items ≡ map call_of into.old.items ++ filter (changes known.now counts.now) (call_of op.entry.now ∷ [])) }
 {
     if !changes(known, counts, op) {
         return Ok(());
@@ -171,9 +167,9 @@ fn changed_of<'a>(
     alloc: Global,
     known: &OpTable<'a, u32>,
     counts: &OpTable<'a, u32>,
-    ops: &[OpView<'a>],
-) -> Result<Vec<OpView<'a>>, NoMemory>
-    ensures { IfOk result (λ v. map op_of v.items ≡ filter (changes known.now counts.now) (map op_of ops.entry.now)) }
+    ops: &[Call<'a>],
+) -> Result<Vec<Call<'a>>, NoMemory>
+    ensures { IfOk result (λ v. map call_of v.items ≡ filter (changes known.now counts.now) (map call_of ops.entry.now)) }
 {
     let mut changed = Vec::new(alloc);
     'ops: for op in ops {
@@ -187,10 +183,10 @@ fn put_counts<'a>(
     alloc: Global,
     known: &mut OpTable<'a, u32>,
     counts: &OpTable<'a, u32>,
-    ops: &[OpView<'a>],
+    ops: &[Call<'a>],
 ) -> Result<(), NoMemory>
     ensures { OnOk result ((n : OpTree) → known_in known.new n
-        ≡ (if list_any (λ c. same_op c n) (map op_of ops.entry.now) then known_in counts.now n else known_in known.old n)) }
+        ≡ (if list_any (λ c. same_op c n) (map call_of ops.entry.now) then known_in counts.now n else known_in known.old n)) }
 {
     'ops: for op in ops {
         let count = counts.get(op.object, op.op).unwrap_or(0);

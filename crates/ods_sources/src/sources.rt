@@ -16,13 +16,13 @@ ghost use Rattle.design_rules.specs.Sources.{bad_sources, requests_by, source_co
 ghost use Rattle.ods_index.specs.Calling.{calls_of, design_calls};
 ghost use Rattle.ods_index.specs.Indexing.{IsIndex};
 ghost use Rattle.ods_index.specs.Judging.{Tells, head_of};
-ghost use Rattle.ods_index.specs.Linked.{op_of};
 ghost use Rattle.ods_sources.specs.Reaching.{AreRight, AreShown, reacher_of, thread_of};
 ghost use Rattle.ods_sources.specs.Requested.{Knows, block_count, source_fault};
 ghost use Rattle.ods_sources.specs.Singles.{is_once};
 ghost use Rattle.ods_sources.specs.Sourced.{any_leads, leads_at, reaches_by};
 ghost use Rattle.ods_starts.specs.Spreading.{reaches};
 ghost use Rattle.ods_index.specs.Walking.{object_of};
+ghost use Rattle.seq_cost.specs.Different.{call_of};
 
 use crate::bodies::{Bodies, table_of};
 use crate::callers::Callers;
@@ -31,15 +31,16 @@ use crate::reacher::Reacher;
 use crate::requests::{block_requests, counts_within};
 use name_sets::{OpTable, Ops, Places};
 use ods_bodies::any_sporadic;
-use ods_index::{Broken, Index, Links, OpCalls, OpView, attribute, is_sporadic};
+use ods_index::{Broken, Index, Links, OpCalls, attribute, is_sporadic};
 use ods_starts::{Starts, thread_starts, threads_of};
 use ods_tree::{AttrKey, Node};
+use seq_cost::Call;
 use seq_tree::{Name, NoMemory};
 use std::alloc::Global;
 
 /// A set of operations.
-fn set_of<'a>(alloc: Global, ops: &[OpView<'a>]) -> Result<Ops<'a>, NoMemory>
-    ensures { IfOk result (λ s. (m : OpTree) → has_op s m ≡ list_any (λ c. same_op c m) (map op_of ops.entry.now)) }
+fn set_of<'a>(alloc: Global, ops: &[Call<'a>]) -> Result<Ops<'a>, NoMemory>
+    ensures { IfOk result (λ s. (m : OpTree) → has_op s m ≡ list_any (λ c. same_op c m) (map call_of ops.entry.now)) }
 {
     let mut set = Ops::new(alloc);
     'ops: for op in ops {
@@ -65,15 +66,15 @@ fn leading_to<'a>(
 }
 
 /// Whether an operation is one of an object, or leads to one.
-fn leads<'a>(target: &Name, leading: &Ops<'a>, op: &OpView<'a>) -> bool
-    ensures { result ≡ (same_name (op_of op.now).object target.now || has_op leading.now (op_of op.now)) }
+fn leads<'a>(target: &Name, leading: &Ops<'a>, op: &Call<'a>) -> bool
+    ensures { result ≡ (same_name (call_of op.now).object target.now || has_op leading.now (call_of op.now)) }
 {
     op.object.bytes() == target.bytes() || leading.has(op.object, op.op)
 }
 
 /// Whether one of these does.
-fn any_leads<'a>(target: &Name, leading: &Ops<'a>, ops: &[OpView<'a>]) -> bool
-    ensures { result ≡ any_leads target.now (has_op leading.now) (map op_of ops.now) }
+fn any_leads<'a>(target: &Name, leading: &Ops<'a>, ops: &[Call<'a>]) -> bool
+    ensures { result ≡ any_leads target.now (has_op leading.now) (map call_of ops.now) }
 {
     'ops: for op in ops {
         if leads(target, leading, op) {

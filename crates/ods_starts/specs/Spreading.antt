@@ -12,17 +12,17 @@ use Rattle.ods_tree.specs.Designs.{Object, Design}
 use Rattle.ods_tree.specs.Flattening.{is_protected}
 use Rattle.design_rules.specs.Rings.{thread_calls, meant_calls}
 use Rattle.ods_index.specs.Calling.{Calls}
-use Rattle.ods_index.specs.Linked.{op_of}
 use Rattle.ods_starts.specs.declared.starts.BodyCalls.{BodyCalls}
 use Rattle.ods_starts.specs.declared.starts.Inner.{Inner}
+use Rattle.seq_cost.specs.Different.{call_of}
 
 -- the operations that are kept for a name
 unfoldable pub body_at : BodyCalls → Name → List OpName
-body_at t name = map op_of (listed (named t.calls name))
+body_at t name = map call_of (listed (named t.calls name))
 
 -- the calls that are kept for an operation
 unfoldable pub inner_at : Inner → OpName → List OpName
-inner_at t name = map op_of (listed (at t.calls name))
+inner_at t name = map call_of (listed (at t.calls name))
 
 -- what a body of a protected object calls, where it is that of an operation of this name
 abbrev pub body_steps : OpName → Calls → List OpName

@@ -11,23 +11,24 @@ ghost use Rattle.design_rules.specs.Lookups.{has_thread};
 ghost use Rattle.design_rules.specs.Rings.{inner_calls, terminal_ops, thread_calls};
 ghost use Rattle.ods_index.specs.Calling.{calls_of};
 ghost use Rattle.ods_index.specs.Indexing.{IsIndex};
-ghost use Rattle.ods_index.specs.Linked.{op_of};
 ghost use Rattle.ods_starts.specs.Spreading.{direct_calls, IsSeen, body_at, body_steps, found_all, found_more, inner_at, reaches, spread};
 ghost use Rattle.ods_index.specs.Walking.{object_of, standing_of};
+ghost use Rattle.seq_cost.specs.Different.{call_of};
 
 use name_sets::{NameTable, OpTable, Ops, Places};
 use ods_index::{
-    Index, Links, OpCalls, OpView, Required, Standing, has_thread, is_protected, is_terminal,
-    meant_calls, ops_of,
+    Index, Links, OpCalls, Required, Standing, has_thread, is_protected, is_terminal, meant_calls,
+    ops_of,
 };
 use ods_tree::Node;
+use seq_cost::Call;
 use seq_tree::{Name, NoMemory};
 use std::alloc::Global;
 
 /// Operations by names: those whose bodies call an operation of an object, by the name of the object.
 #[derive(Drop)]
 pub struct BodyCalls<'a> {
-    calls: NameTable<'a, Vec<OpView<'a>>>,
+    calls: NameTable<'a, Vec<Call<'a>>>,
 }
 
 impl<'a> BodyCalls<'a> {
@@ -43,8 +44,8 @@ impl<'a> BodyCalls<'a> {
 
     /// The operations that are kept for a name, where there is one.
     #[tactic(auto, unfolding(crate::specs::Spreading::body_at))]
-    pub fn get(&self, op: &Name) -> Option<&[OpView<'a>]>
-        ensures { unwrap_or (option_map (λ v. map op_of v.now) result) [] ≡ body_at self.now op.now }
+    pub fn get(&self, op: &Name) -> Option<&[Call<'a>]>
+        ensures { unwrap_or (option_map (λ v. map call_of v.now) result) [] ≡ body_at self.now op.now }
     {
         match self.calls.find(op) {
             None => None,
@@ -54,9 +55,9 @@ impl<'a> BodyCalls<'a> {
 
     /// Adds operations behind those of a name.
     #[tactic(auto, unfolding(crate::specs::Spreading::body_at))]
-    pub fn add(&mut self, alloc: Global, op: &'a Name, calls: &[OpView<'a>]) -> Result<(), NoMemory>
+    pub fn add(&mut self, alloc: Global, op: &'a Name, calls: &[Call<'a>]) -> Result<(), NoMemory>
         ensures { OnOk result ((n : NameTree) → body_at self.new n ≡ body_at self.old n
-            ++ (if same_name op.entry.now n then map op_of calls.entry.now else [])) }
+            ++ (if same_name op.entry.now n then map call_of calls.entry.now else [])) }
     {
         self.calls.extend(op, calls.to_vec(alloc)?)
     }
@@ -65,7 +66,7 @@ impl<'a> BodyCalls<'a> {
 /// What the bodies of protected operations call, links followed.
 #[derive(Drop)]
 pub struct Inner<'a> {
-    calls: OpTable<'a, Vec<OpView<'a>>>,
+    calls: OpTable<'a, Vec<Call<'a>>>,
 }
 
 impl<'a> Inner<'a> {
@@ -81,8 +82,8 @@ impl<'a> Inner<'a> {
 
     /// What the bodies of an operation call, where there is one.
     #[tactic(auto, unfolding(crate::specs::Spreading::inner_at))]
-    fn get(&self, op: &OpView<'a>) -> Option<&[OpView<'a>]>
-        ensures { unwrap_or (option_map (λ v. map op_of v.now) result) [] ≡ inner_at self.now (op_of op.entry.now) }
+    fn get(&self, op: &Call<'a>) -> Option<&[Call<'a>]>
+        ensures { unwrap_or (option_map (λ v. map call_of v.now) result) [] ≡ inner_at self.now (call_of op.entry.now) }
     {
         match self.calls.find(op.object, op.op) {
             None => None,
@@ -97,10 +98,10 @@ impl<'a> Inner<'a> {
         alloc: Global,
         object: &'a Name,
         op: &'a Name,
-        calls: &[OpView<'a>],
+        calls: &[Call<'a>],
     ) -> Result<(), NoMemory>
         ensures { OnOk result ((n : OpTree) → inner_at self.new n ≡ inner_at self.old n
-            ++ (if same_op (record { object = object.entry.now; op = op.entry.now }) n then map op_of calls.entry.now else [])) }
+            ++ (if same_op (record { object = object.entry.now; op = op.entry.now }) n then map call_of calls.entry.now else [])) }
     {
         self.calls.extend(alloc, object, op, calls.to_vec(alloc)?)
     }
@@ -110,13 +111,13 @@ impl<'a> Inner<'a> {
 #[tactic(auto, unfolding(crate::specs::Spreading::found_more))]
 fn find<'a>(
     alloc: Global,
-    op: &OpView<'a>,
+    op: &Call<'a>,
     seen: &mut Ops<'a>,
-    found: &mut Vec<OpView<'a>>,
+    found: &mut Vec<Call<'a>>,
 ) -> Result<(), NoMemory>
-    requires { IsSeen seen.old (map op_of found.old.items) }
-    ensures found { OnOk result (map op_of found.new.items ≡ found_more (map op_of found.old.items) (op_of op.entry.now)) }
-    ensures seen { OnOk result (IsSeen seen.new (map op_of found.new.items)) }
+    requires { IsSeen seen.old (map call_of found.old.items) }
+    ensures found { OnOk result (map call_of found.new.items ≡ found_more (map call_of found.old.items) (call_of op.entry.now)) }
+    ensures seen { OnOk result (IsSeen seen.new (map call_of found.new.items)) }
 {
     if seen.has(op.object, op.op) {
         return Ok(());
@@ -129,13 +130,13 @@ fn find<'a>(
 /// Adds operations that weren't found before.
 pub fn find_all<'a>(
     alloc: Global,
-    ops: &[OpView<'a>],
+    ops: &[Call<'a>],
     seen: &mut Ops<'a>,
-    found: &mut Vec<OpView<'a>>,
+    found: &mut Vec<Call<'a>>,
 ) -> Result<(), NoMemory>
-    requires { IsSeen seen.old (map op_of found.old.items) }
-    ensures found { OnOk result (map op_of found.new.items ≡ found_all (map op_of found.old.items) (map op_of ops.entry.now)) }
-    ensures seen { OnOk result (IsSeen seen.new (map op_of found.new.items)) }
+    requires { IsSeen seen.old (map call_of found.old.items) }
+    ensures found { OnOk result (map call_of found.new.items ≡ found_all (map call_of found.old.items) (map call_of ops.entry.now)) }
+    ensures seen { OnOk result (IsSeen seen.new (map call_of found.new.items)) }
 {
     'ops: for op in ops {
         find(alloc, op, seen, found)?;
@@ -144,7 +145,7 @@ pub fn find_all<'a>(
 }
 
 /// Operations from a place on.
-fn rest_of<'a>(alloc: Global, ops: &[OpView<'a>], from: usize) -> Result<Vec<OpView<'a>>, NoMemory>
+fn rest_of<'a>(alloc: Global, ops: &[Call<'a>], from: usize) -> Result<Vec<Call<'a>>, NoMemory>
     requires { from ≤ length ops.now }
     ensures { IfOk result (λ v. v.items ≡ drop from ops.entry.now) }
 {
@@ -159,13 +160,13 @@ fn rest_of<'a>(alloc: Global, ops: &[OpView<'a>], from: usize) -> Result<Vec<OpV
 fn follow<'a>(
     alloc: Global,
     inner: &Inner<'a>,
-    op: &OpView<'a>,
+    op: &Call<'a>,
     seen: &mut Ops<'a>,
-    found: &mut Vec<OpView<'a>>,
+    found: &mut Vec<Call<'a>>,
 ) -> Result<(), NoMemory>
-    requires { IsSeen seen.old (map op_of found.old.items) }
-    ensures found { OnOk result (map op_of found.new.items ≡ found_all (map op_of found.old.items) (inner_at inner.entry.now (op_of op.entry.now))) }
-    ensures seen { OnOk result (IsSeen seen.new (map op_of found.new.items)) }
+    requires { IsSeen seen.old (map call_of found.old.items) }
+    ensures found { OnOk result (map call_of found.new.items ≡ found_all (map call_of found.old.items) (inner_at inner.entry.now (call_of op.entry.now))) }
+    ensures seen { OnOk result (IsSeen seen.new (map call_of found.new.items)) }
 {
     match inner.get(op) {
         None => Ok(()),
@@ -178,14 +179,14 @@ fn follow<'a>(
 pub fn follow_all<'a>(
     alloc: Global,
     inner: &Inner<'a>,
-    ops: &[OpView<'a>],
+    ops: &[Call<'a>],
     seen: &mut Ops<'a>,
-    found: &mut Vec<OpView<'a>>,
+    found: &mut Vec<Call<'a>>,
 ) -> Result<(), NoMemory>
-    requires { IsSeen seen.old (map op_of found.old.items) }
-    ensures found { OnOk result (map op_of found.new.items
-        ≡ found_all (map op_of found.old.items) (flat_map (inner_at inner.entry.now) (map op_of ops.entry.now))) }
-    ensures seen { OnOk result (IsSeen seen.new (map op_of found.new.items)) }
+    requires { IsSeen seen.old (map call_of found.old.items) }
+    ensures found { OnOk result (map call_of found.new.items
+        ≡ found_all (map call_of found.old.items) (flat_map (inner_at inner.entry.now) (map call_of ops.entry.now))) }
+    ensures seen { OnOk result (IsSeen seen.new (map call_of found.new.items)) }
 {
     'ops: for op in ops {
         follow(alloc, inner, op, seen, found)?;
@@ -198,9 +199,9 @@ pub fn search<'a>(
     alloc: Global,
     inner: &Inner<'a>,
     depth: usize,
-    starts: &[OpView<'a>],
-) -> Result<Vec<OpView<'a>>, NoMemory>
-    ensures { IfOk result (λ v. map op_of v.items ≡ spread (inner_at inner.entry.now) depth 0 (found_all [] (map op_of starts.entry.now))) }
+    starts: &[Call<'a>],
+) -> Result<Vec<Call<'a>>, NoMemory>
+    ensures { IfOk result (λ v. map call_of v.items ≡ spread (inner_at inner.entry.now) depth 0 (found_all [] (map call_of starts.entry.now))) }
 {
     let mut seen = Ops::new(alloc);
     let mut found = Vec::new(alloc);
@@ -267,8 +268,8 @@ pub fn threads_of<'a>(alloc: Global, objects: &[Standing<'a>]) -> Result<Vec<&'a
 }
 
 /// A table of the names of the objects of operations.
-fn names_of<'a>(alloc: Global, ops: &[OpView<'a>]) -> Result<Places<'a>, NoMemory>
-    ensures { IfOk result (λ t. (n : NameTree) → is_some (place_in t n) ≡ list_any (λ c. same_name c.object n) (map op_of ops.entry.now)) }
+fn names_of<'a>(alloc: Global, ops: &[Call<'a>]) -> Result<Places<'a>, NoMemory>
+    ensures { IfOk result (λ t. (n : NameTree) → is_some (place_in t n) ≡ list_any (λ c. same_name c.object n) (map call_of ops.entry.now)) }
 {
     let mut names = Places::new(alloc);
     'ops: for op in ops {
@@ -283,8 +284,8 @@ pub fn thread_starts<'a>(
     alloc: Global,
     links: &Links<'a>,
     node: &'a Node,
-) -> Result<Vec<OpView<'a>>, NoMemory>
-    ensures { IfOk result (λ v. map op_of v.items ≡ direct_calls (design_of links.now.design.now) (object_of node.entry.now)) }
+) -> Result<Vec<Call<'a>>, NoMemory>
+    ensures { IfOk result (λ v. map call_of v.items ≡ direct_calls (design_of links.now.design.now) (object_of node.entry.now)) }
 {
     match &node.thread {
         None => Ok(Vec::new(alloc)),
@@ -301,9 +302,9 @@ fn add_starts<'a>(
     alloc: Global,
     links: &Links<'a>,
     node: &'a Node,
-    into: &mut Vec<OpView<'a>>,
+    into: &mut Vec<Call<'a>>,
 ) -> Result<(), NoMemory>
-    ensures { OnOk result (map op_of into.new.items ≡ map op_of into.old.items
+    ensures { OnOk result (map call_of into.new.items ≡ map call_of into.old.items
         ++ direct_calls (design_of links.now.design.now) (object_of node.entry.now)) }
 {
     let calls = thread_starts(alloc, links, node)?;
@@ -316,8 +317,8 @@ fn all_starts<'a>(
     alloc: Global,
     links: &Links<'a>,
     threads: &[&'a Node],
-) -> Result<Vec<OpView<'a>>, NoMemory>
-    ensures { IfOk result (λ v. map op_of v.items
+) -> Result<Vec<Call<'a>>, NoMemory>
+    ensures { IfOk result (λ v. map call_of v.items
         ≡ flat_map (direct_calls (design_of links.now.design.now)) (map (λ t. object_of t.now) threads.entry.now)) }
 {
     let mut calls = Vec::new(alloc);
@@ -354,8 +355,8 @@ impl<'k, 'a> Starts<'k, 'a> {
     }
 
     /// The operations that the thread of an object calls, itself or through protected ones, each once.
-    pub fn calls(&self, alloc: Global, node: &'a Node) -> Result<Vec<OpView<'a>>, NoMemory>
-        ensures { IfOk result (λ v. (test : OpTree → Bool) → list_any test (map op_of v.items)
+    pub fn calls(&self, alloc: Global, node: &'a Node) -> Result<Vec<Call<'a>>, NoMemory>
+        ensures { IfOk result (λ v. (test : OpTree → Bool) → list_any test (map call_of v.items)
             ≡ list_any test (thread_calls (design_of self.now.links.now.design.now) (object_of node.entry.now))) }
     {
         let starts = thread_starts(alloc, self.links, node)?;

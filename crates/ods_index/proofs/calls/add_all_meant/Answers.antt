@@ -5,7 +5,6 @@ use Rattle.seq_cost.specs.Different.{call_of}
 use Rattle.seq_cost.specs.declared.written.Call.{Call}
 use Rattle.ods_tree.specs.Links.{resolve}
 use Rattle.ods_tree.specs.Trees.{design_of}
-use Rattle.ods_index.specs.Linked.{op_of}
 use Rattle.seq_tree.proofs.Shared.LoopSteps.{added_step, map_filter_first}
 use Rattle.ods_index.proofs.calls.add_all_meant.Goals as goal
 
@@ -14,6 +13,6 @@ calls-preserved c =
     let x = design_of c.args.links.now.design.now in
     let needs = c.args.needs.now.ops.now in
     added_step (λ (cs : List Call). map (resolve x) (filter (λ o. list_any (same_op o) needs) (map call_of cs))) _
-    c.args.calls.now c.calls.call-index c.call-item.result (map op_of c.calls.into.items) _ _
+    c.args.calls.now c.calls.call-index c.call-item.result (map call_of c.calls.into.items) _ _
     (λ ys. map_filter_first (resolve x) (λ o. list_any (same_op o) needs) (call_of c.call-item.result) (map call_of ys))
     c.calls-test.true c.call-item.is c.in_ok-add_meant.ensures c.calls.invariant

@@ -4,13 +4,12 @@ use Rattle.seq_tree.specs.Calls.{same_op}
 use Rattle.seq_cost.specs.Different.{call_of}
 use Rattle.ods_tree.specs.Links.{resolve}
 use Rattle.ods_tree.specs.Trees.{design_of}
-use Rattle.ods_index.specs.Linked.{op_of}
 use Rattle.ods_index.proofs.calls.add_all_meant.Given as goal
 
 -- what was added so far, and what the calls mean that are left
 abbrev pub invariant-calls : goal.invariant-calls
 invariant-calls l =
-    map op_of l.into.items ++ map (resolve (design_of l.links.design.now))
+    map call_of l.into.items ++ map (resolve (design_of l.links.design.now))
     (filter (λ c. list_any (same_op c) l.needs.ops.now) (map call_of (drop l.call-index l.calls)))
-    ≡ map op_of l.initial.into.items
+    ≡ map call_of l.initial.into.items
     ++ map (resolve (design_of l.links.design.now)) (filter (λ c. list_any (same_op c) l.needs.ops.now) (map call_of l.calls))

@@ -3,10 +3,10 @@ use Rattle.seq_tree.specs.declared.tree.OpName.{OpName}
 use Rattle.name_sets.specs.Tables.{at}
 use Rattle.ods_tree.specs.Links.{first_of}
 use Rattle.name_sets.specs.FirstPlaces.{op_place_from}
-use Rattle.ods_index.specs.Linked.{op_of}
 use Rattle.ods_index.proofs.ops.op_places.Given as goal
+use Rattle.seq_cost.specs.Different.{call_of}
 
 -- the places of the operations so far, or of those that are left
 abbrev pub invariant-ops : goal.invariant-ops
 invariant-ops l =
-    (n : OpName) → first_of (at l.places n) (op_place_from l.place (map op_of (drop l.place l.ops)) n) ≡ op_place_from 0 (map op_of l.ops) n
+    (n : OpName) → first_of (at l.places n) (op_place_from l.place (map call_of (drop l.place l.ops)) n) ≡ op_place_from 0 (map call_of l.ops) n

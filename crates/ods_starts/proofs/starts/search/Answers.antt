@@ -1,25 +1,25 @@
 use Rattle.std.proofs.Common.{◌≡◌, ◌≤◌, ◌+◌, ◌-◌, flat_map, map, drop, length, arith, ap, sym, ◌∙◌}
 use Rattle.std.proofs.lemmas.List.{drop-map, length-map}
-use Rattle.ods_index.specs.Linked.{op_of}
 use Rattle.ods_starts.specs.Spreading.{found_all, inner_at, spread}
 use Rattle.ods_starts.proofs.Shared.SpreadLaws.{found-longer, spread-ends, spread-next}
 use Rattle.ods_starts.proofs.starts.search.Goals as goal
+use Rattle.seq_cost.specs.Different.{call_of}
 
 pub levels-preserved : goal.levels-preserved
 levels-preserved c =
     let next = inner_at c.args.inner.now in
-    let all = map op_of c.levels.found.items in
+    let all = map call_of c.levels.found.items in
     let from = c.levels.from in
     let after = found_all all (flat_map next (drop from all)) in
-    let new = map op_of c.follow_all.new.found.items in
-    let level : map op_of c.as_slice-in-levels.result.now ≡ drop from all =
-    ap (map op_of) (c.as_slice-in-levels.ensures.value ∙ c.in_ok-level.ensures ∙ ap (drop from) c.as_slice.ensures.value)
-    ∙ sym (drop-map op_of from c.levels.found.items) in
+    let new = map call_of c.follow_all.new.found.items in
+    let level : map call_of c.as_slice-in-levels.result.now ≡ drop from all =
+    ap (map call_of) (c.as_slice-in-levels.ensures.value ∙ c.in_ok-level.ensures ∙ ap (drop from) c.as_slice.ensures.value)
+    ∙ sym (drop-map call_of from c.levels.found.items) in
     let grown : new ≡ after = c.in_ok-follow_all.ensures.found ∙ ap (λ z. found_all all (flat_map next z)) level in
-    let names : length all ≡ length c.levels.found.items = length-map c.levels.found.items op_of in
+    let names : length all ≡ length c.levels.found.items = length-map c.levels.found.items call_of in
     let count : c.len-from.result ≡ length all = omega (arith, c.len-from.ensures, c.levels.found.ok.0, names) in
     let longer : length all ≤ length after = found-longer all (flat_map next (drop from all)) in
-    let size : length after ≡ length c.follow_all.new.found.items = ap length (sym grown) ∙ length-map c.follow_all.new.found.items op_of in (
+    let size : length after ≡ length c.follow_all.new.found.items = ap length (sym grown) ∙ length-map c.follow_all.new.found.items call_of in (
       c.in_ok-follow_all.ensures.seen,
       omega (arith, count, longer, size),
       ap (λ z. spread next (c.args.depth - (c.levels.counter + 1)) c.len-from.result z) grown
@@ -30,7 +30,7 @@ levels-preserved c =
 pub returns-then-from-len : goal.returns-then-from-len
 returns-then-from-len c =
     let next = inner_at c.args.inner.now in
-    let all = map op_of c.levels.found.items in
-    let names : length all ≡ length c.levels.found.items = length-map c.levels.found.items op_of in
+    let all = map call_of c.levels.found.items in
+    let names : length all ≡ length c.levels.found.items = length-map c.levels.found.items call_of in
     sym (spread-ends next (c.args.depth - c.levels.counter) c.levels.from all
     (omega (arith, c.if-from-len.true, c.len.ensures, c.levels.found.ok.0, names))) ∙ c.levels.invariant.2

@@ -1,11 +1,11 @@
 use Rattle.std.proofs.Common.{◌≡◌, ◌≤◌, ◌-◌, [], length, map}
-use Rattle.ods_index.specs.Linked.{op_of}
 use Rattle.ods_starts.specs.Spreading.{IsSeen, found_all, inner_at, spread}
 use Rattle.ods_starts.proofs.starts.search.Given as goal
+use Rattle.seq_cost.specs.Different.{call_of}
 
 -- what was found so far, and the levels that are left
 abbrev pub invariant-levels : goal.invariant-levels
 invariant-levels l =
-    IsSeen l.seen (map op_of l.found.items) × (l.from ≤ length l.found.items)
-    × (spread (inner_at l.inner) (l.depth - l.counter) l.from (map op_of l.found.items)
-    ≡ spread (inner_at l.inner) l.depth 0 (found_all [] (map op_of l.starts)))
+    IsSeen l.seen (map call_of l.found.items) × (l.from ≤ length l.found.items)
+    × (spread (inner_at l.inner) (l.depth - l.counter) l.from (map call_of l.found.items)
+    ≡ spread (inner_at l.inner) l.depth 0 (found_all [] (map call_of l.starts)))

@@ -4,11 +4,11 @@ use Rattle.ods_tree.specs.Trees.{design_of}
 use Rattle.ods_tree.specs.Walk.{is_terminal, objects, terminals}
 use Rattle.ods_index.specs.Calling.{calls_of, design_calls}
 use Rattle.ods_index.specs.OwnOps.{own_ops}
-use Rattle.ods_index.specs.Linked.{op_of}
 use Rattle.ods_index.specs.Walking.{standing_of}
 use Rattle.ods_starts.specs.Spreading.{body_steps}
 use Rattle.ods_starts.proofs.Shared.SpreadLaws.{inner-steps}
 use Rattle.ods_starts.proofs.starts.Starts.new.Goals as goal
+use Rattle.seq_cost.specs.Different.{call_of}
 
 pub invariant_of-result : goal.invariant_of-result
 invariant_of-result c =
@@ -21,6 +21,6 @@ invariant_of-result c =
     record {
       leads = λ n. c.in_ok-inner.ensures n ∙ ap (flat_map (body_steps n)) called ∙ inner-steps x n (terminals x);
       deep =
-          count ∙ sym (length-map c.in_ok-ops.ops.items op_of)
+          count ∙ sym (length-map c.in_ok-ops.ops.items call_of)
           ∙ ap length (c.in_ok-ops.ensures ∙ ap (λ ss. flat_map own_ops (filter is_terminal ss)) walked);
     }

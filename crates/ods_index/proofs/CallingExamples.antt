@@ -8,7 +8,7 @@ use Rattle.ods_tree.specs.Walk.{own_of}
 use Rattle.ods_tree.specs.declared.design.Kind.{Kind}
 use Rattle.ods_tree.specs.declared.design.Kind.TheVariants.{Passive, Protected}
 use Rattle.ods_tree.proofs.Shared.Short.{block, call, design, trees}
-use Rattle.ods_index.specs.Calling.{Calls, design_calls, object_calls, required_calls}
+use Rattle.ods_index.specs.Calling.{Calls, design_calls, object_calls, meant_by}
 use Rattle.ods_index.proofs.Shared.SmallDesign.{by_root, f, g, go, guarded, passive, x}
 
 -- yes is not no, and something is not nothing
@@ -23,16 +23,16 @@ abbrev asks_root : Statements
 asks_root = block (call by_root.object by_root.op ∷ [])
 
 -- a required call is followed, and one that is not required, or not made, is none
-followed : required_calls x (by_root ∷ []) asks_root ≡ f ∷ []
+followed : meant_by x (by_root ∷ []) asks_root ≡ f ∷ []
 followed = refl
 
-not_followed : required_calls x (by_root ∷ []) asks_root ≡ by_root ∷ [] → ⊥
+not_followed : meant_by x (by_root ∷ []) asks_root ≡ by_root ∷ [] → ⊥
 not_followed e = yes_not_no (ap (map (same_op f)) e)
 
-not_required : required_calls x (go ∷ []) asks_root ≡ []
+not_required : meant_by x (go ∷ []) asks_root ≡ []
 not_required = refl
 
-not_made : required_calls x (go ∷ f ∷ []) (block (Work 3 ∷ [])) ≡ []
+not_made : meant_by x (go ∷ f ∷ []) (block (Work 3 ∷ [])) ≡ []
 not_made = refl
 
 -- the bodies of objects

@@ -22,9 +22,9 @@ pub record Calls : Type 0 where
   pub block : Statements
   pub meant : List OpName
 
--- what a block calls, as it is required, links followed
-abbrev pub required_calls : Design → List OpName → Statements → List OpName
-required_calls x needs b = map (resolve x) (filter (λ c. list_any (same_op c) needs) (block_calls b))
+-- what a block calls of what is required, links followed: `meant_calls` of `Rings`, by what its object requires
+abbrev pub meant_by : Design → List OpName → Statements → List OpName
+meant_by x needs b = map (resolve x) (filter (λ c. list_any (same_op c) needs) (block_calls b))
 
 -- a body of an object
 abbrev pub body_calls : Design → Kind → Name → List OpName → Body → Calls
@@ -33,7 +33,7 @@ body_calls x kind object needs b = record {
   name = record { object = object; op = b.name };
   needs = needs;
   block = b.block;
-  meant = required_calls x needs b.block;
+  meant = meant_by x needs b.block;
 }
 
 -- those of an object

@@ -6,7 +6,7 @@ ghost use Rattle.seq_cost.specs.Different.{call_of};
 ghost use Rattle.ods_tree.specs.Links.{resolve};
 ghost use Rattle.ods_tree.specs.Trees.{body_of, design_of};
 ghost use Rattle.ods_tree.specs.Walk.{is_terminal};
-ghost use Rattle.ods_index.specs.Calling.{body_calls, calls_of, object_calls, required_calls};
+ghost use Rattle.ods_index.specs.Calling.{body_calls, calls_of, object_calls, meant_by};
 ghost use Rattle.ods_index.specs.Walking.{object_of, standing_of};
 
 use crate::kinds::is_terminal;
@@ -71,7 +71,7 @@ pub fn meant_calls<'a>(
     block: &'a Block,
 ) -> Result<Vec<Call<'a>>, NoMemory>
     ensures { IfOk result (λ v. map call_of v.items
-        ≡ required_calls (design_of links.now.design.now) needs.now.ops.now (block_of block.entry.now)) }
+        ≡ meant_by (design_of links.now.design.now) needs.now.ops.now (block_of block.entry.now)) }
 {
     let calls = written_calls(alloc, block)?;
     let mut meant = Vec::new(alloc);

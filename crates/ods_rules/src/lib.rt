@@ -1,7 +1,7 @@
 //! The rules of a design: what is broken, and what of it is told first.
 //!
-//! It stands on the rules of `design_rules` and on the crates that find the offenders: `ods_names`, `ods_forms`, `ods_rings`,
-//! `ods_sources` and `ods_costs`, over the index of `ods_index`. `check` carries its promise: it takes a design exactly where the design
+//! It stands on the rules of `design_rules` and on the crates that find the offenders: `ods_names`, `ods_forms` and
+//! `ods_calls`, over the index of `ods_index`. `check` carries its promise: it takes a design exactly where the design
 //! meets the rules, and else tells the first rule that is broken, by number, and of it the first offender.
 //!
 //! Other crates may cite these proofs of it (`proofs/Shared`):

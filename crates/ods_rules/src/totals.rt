@@ -4,8 +4,8 @@ ghost use Rattle.design_rules.specs.Rings.{thread_objects};
 ghost use Rattle.ods_rules.specs.Checks.{checked_design};
 
 use crate::checked::Checked;
+use ods_calls::threads_of;
 use ods_index::objects_of;
-use ods_starts::threads_of;
 use seq_tree::NoMemory;
 use std::alloc::Global;
 

@@ -6,19 +6,20 @@ ghost use Rattle.design_rules.specs.Rules.{Offends, Version};
 ghost use Rattle.ods_rules.specs.Checks.{Says};
 ghost use Rattle.ods_index.specs.Indexing.{IsIndex};
 ghost use Rattle.ods_index.specs.Judging.{Judges, Passes, PassesBefore, Tells, head_of};
-ghost use Rattle.ods_costs.specs.Pricing.{priced_design};
+ghost use Rattle.ods_calls.specs.Pricing.{priced_design};
 ghost use Rattle.ods_rules.specs.Orders.{Verdict, limit, rule_of};
 
 use crate::checked::Checked;
-use ods_costs::{Priced, first_bad_budget, first_bad_size};
+use ods_calls::{
+    Priced, first_bad_budget, first_bad_size, first_bad_source, first_bad_spacing,
+    first_ringed_object, first_ringed_op, first_ringed_thread,
+};
 use ods_forms::{
     first_bad_body, first_bad_fitting, first_bad_include, first_bad_number, first_bad_operation,
     first_bad_version, first_idle_active, set_ticks,
 };
 use ods_index::{Broken, Index};
 use ods_names::{first_absent, first_clash, first_forbidden, first_kept_name, first_stranger};
-use ods_rings::{first_ringed_object, first_ringed_op, first_ringed_thread};
-use ods_sources::{first_bad_source, first_bad_spacing};
 use ods_tree::Design;
 use seq_tree::NoMemory;
 use std::alloc::Global;

@@ -1,7 +1,7 @@
 use Rattle.std.proofs.Common.{◌≡◌, ◌-◌}
 use Rattle.std.specs.Prelude.{IfSome}
 use Rattle.ods_tree.specs.Trees.{design_of}
-use Rattle.ods_costs.specs.Pricing.{priced_design}
+use Rattle.ods_calls.specs.Pricing.{priced_design}
 use Rattle.ods_rules.specs.Orders.{PassesBelow, limit}
 use Rattle.ods_rules.proofs.verdict.judge_all.Given as goal
 

@@ -1,4 +1,0 @@
-mod BodyExamples
-pub mod KeySteps
-pub mod Shared
-pub mod TargetSteps

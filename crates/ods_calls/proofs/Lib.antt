@@ -1,0 +1,35 @@
+mod BodyExamples
+mod CostExamples
+mod GraphExamples
+mod GuardedExamples
+mod RequestExamples
+mod SpacingExamples
+mod StartExamples
+mod StartingExamples
+pub mod BackLaws
+pub mod BodyEdges
+pub mod BudgetSteps
+pub mod CallRings
+pub mod CalledLaws
+pub mod FilterSteps
+pub mod Items
+pub mod KeptCalls
+pub mod KeySteps
+pub mod LoopEnds
+pub mod LoopSteps
+pub mod NamePlaces
+pub mod ObjectRings
+pub mod OnceCalls
+pub mod PlaceSteps
+pub mod PriceLaws
+pub mod RankSteps
+pub mod RequestLaws
+pub mod RisingLaws
+pub mod ServedSteps
+pub mod SizeSteps
+pub mod SourceLaws
+pub mod SpacingLaws
+pub mod SpreadLaws
+pub mod StartRings
+pub mod StartSteps
+pub mod TargetSteps

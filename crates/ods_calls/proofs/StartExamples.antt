@@ -1,0 +1,96 @@
+-- Examples: what threads are found to reach, and what breaks each definition alone.
+use Rattle.std.specs.Prelude.{◌≡◌, true, false, List, [], ◌∷◌, Some, None, codes, refl}
+use Rattle.std.proofs.Common.{sym, ◌∙◌}
+use Rattle.seq_tree.specs.Statements.{Call, End, Then}
+use Rattle.seq_tree.specs.declared.tree.Costs.{Costs}
+use Rattle.seq_tree.specs.declared.tree.OpName.{OpName}
+use Rattle.name_sets.specs.Sets.{has_op}
+use Rattle.name_sets.specs.declared.sets.Ops.{Ops}
+use Rattle.ods_tree.specs.Designs.{Design, Empty, Node, Object}
+use Rattle.ods_tree.specs.declared.design.AttrKey.TheVariants.{Period}
+use Rattle.ods_index.specs.Calling.{Calls}
+use Rattle.ods_tree.specs.declared.design.Kind.{Kind}
+use Rattle.ods_tree.specs.declared.design.Kind.TheVariants.{Cyclic, Protected}
+use Rattle.ods_calls.specs.Spreading.{IsSeen, body_steps, found_all, found_more, reaches, spread}
+
+abbrev set : OpName
+set = record { object = codes "q"; op = codes "set" }
+
+abbrev get : OpName
+get = record { object = codes "q"; op = codes "get" }
+
+abbrev free : Costs
+free = record { assign = 1; test = 1; turn = 1; call = 1; nothing = 1; put = 1; finish = 1 }
+
+-- a thread that calls q.set, where it requires these operations
+abbrev caller : List OpName → Object
+caller needs = record {
+  name = codes "a";
+  kind = Cyclic;
+  attrs = record { key = Period; value = 5; unit = None } ∷ [];
+  provides = [];
+  needs = needs;
+  vars = [];
+  bodies = record { name = codes "do"; locals = []; block = Then (Call (codes "q") (codes "set") []) End } ∷ [];
+  thread = Some (Then (Call (codes "q") (codes "set") []) End);
+  links = [];
+}
+
+abbrev small : List OpName → Design
+small needs = record { name = codes "d"; version = None; costs = free; root = Node (caller needs) Empty }
+
+found_once : found_more [] set ≡ set ∷ []
+unfolding found_more
+found_once = refl
+
+found_before : found_more (set ∷ []) set ≡ set ∷ []
+unfolding found_more
+found_before = refl
+
+found_two : found_all [] (set ∷ get ∷ set ∷ []) ≡ set ∷ get ∷ []
+unfolding found_more
+found_two = refl
+
+-- what is called is found in one level, and not in none
+spread_one : spread (λ n. get ∷ []) 1 0 (set ∷ []) ≡ set ∷ get ∷ []
+unfolding found_more
+spread_one = refl
+
+spread_none : spread (λ n. get ∷ []) 0 0 (set ∷ []) ≡ set ∷ []
+spread_none = refl
+
+-- what was before the place isn't followed again
+spread_after : spread (λ n. get ∷ []) 1 1 (set ∷ []) ≡ set ∷ []
+spread_after = refl
+
+-- a set that has none is that of no operations, and of no others
+seen_none : (s : Ops) → ((n : OpName) → has_op s n ≡ false) → IsSeen s []
+seen_none s none n = none n
+
+seen_some : (s : Ops) → ((n : OpName) → has_op s n ≡ false) → IsSeen s (set ∷ []) → ⊥
+seen_some s none seen = (let z : false ≡ true = sym (none set) ∙ seen set in cc)
+
+-- the body of the operation of an object of this kind that calls q.set
+abbrev body_in : Kind → Calls
+body_in kind = record {
+  kind = kind;
+  name = record { object = codes "a"; op = codes "do" };
+  needs = set ∷ [];
+  block = Then (Call (codes "q") (codes "set") []) End;
+  meant = set ∷ [];
+}
+
+body_of_name : body_steps (record { object = codes "a"; op = codes "do" }) (body_in Protected) ≡ set ∷ []
+body_of_name = refl
+
+body_of_other_name : body_steps (record { object = codes "a"; op = codes "go" }) (body_in Protected) ≡ []
+body_of_other_name = refl
+
+body_of_other_kind : body_steps (record { object = codes "a"; op = codes "do" }) (body_in Cyclic) ≡ []
+body_of_other_kind = refl
+
+reached_by_call : reaches (small (set ∷ [])) (caller (set ∷ [])) (codes "q") ≡ true
+reached_by_call = refl
+
+not_reached_without_need : reaches (small []) (caller []) (codes "q") ≡ false
+not_reached_without_need = refl

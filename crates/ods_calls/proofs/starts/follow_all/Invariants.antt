@@ -1,0 +1,11 @@
+use Rattle.std.proofs.Common.{◌≡◌, flat_map, map, drop}
+use Rattle.ods_calls.specs.Spreading.{IsSeen, found_all, inner_at}
+use Rattle.ods_calls.proofs.starts.follow_all.Given as goal
+use Rattle.seq_cost.specs.Different.{call_of}
+
+-- what was found so far, and what the operations call that are left
+abbrev pub invariant-ops : goal.invariant-ops
+invariant-ops l =
+    IsSeen l.seen (map call_of l.found.items)
+    × (found_all (map call_of l.found.items) (flat_map (inner_at l.inner) (map call_of (drop l.op-index l.ops)))
+    ≡ found_all (map call_of l.initial.found.items) (flat_map (inner_at l.inner) (map call_of l.ops)))

@@ -1,2 +1,0 @@
-pub mod Costed
-pub mod Pricing

@@ -1,4 +1,0 @@
-pub mod Graphed
-pub mod Guarded
-pub mod Ranked
-pub mod Starting

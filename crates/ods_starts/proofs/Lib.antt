@@ -1,2 +1,0 @@
-mod StartExamples
-pub mod Shared

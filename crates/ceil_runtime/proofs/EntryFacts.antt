@@ -8,8 +8,7 @@ use Rattle.seq_tree.specs.Variables.{Variables}
 use Rattle.ada_tree.specs.Trees.{unit_of}
 use Rattle.task_runtime.specs.Fitting.{names_of}
 use Rattle.linker.specs.Programs.{datum_names}
-use Rattle.machine.specs.Systems.{ProtectedUnit}
-use Rattle.task_runtime.specs.Libraries.{objects_from}
+use Rattle.machine.specs.Systems.{ProtectedUnit, objects_from}
 use Rattle.ceil_runtime.specs.Acted.{IsDoing}
 use Rattle.ceil_runtime.specs.Objects.{AreObjectsOf, first_object, lasting, shown}
 use Rattle.ceil_runtime.specs.Processing.{AreAlike}

@@ -11,7 +11,7 @@ use Rattle.link_queue.specs.Queues.{Each, Entry, Queues, at_tail, outranks, put_
 use Rattle.law_dispatching.specs.Queueing.{IsReadyAt}
 use Rattle.trace_tree.specs.declared.event.Event.{Event}
 use Rattle.trace_tree.specs.declared.event.Event.TheVariants as event
-use Rattle.machine.specs.Systems.{ProtectedUnit}
+use Rattle.machine.specs.Systems.{ProtectedUnit, objects_from}
 use Rattle.machine.specs.Pieces as pieces
 use Rattle.machine.specs.States as states
 use Rattle.machine.specs.States.{Resource, Object, Control}
@@ -22,7 +22,6 @@ use Rattle.machine.specs.Effects.{acted, ceiling_of, entry, exit, inside_now, ob
 use Rattle.law_dispatching.proofs.Shared.Acts.{not-served}
 use Rattle.linked_task.specs.Works.{IsActOf}
 use Rattle.task_runtime.specs.Effort.{sections_among}
-use Rattle.task_runtime.specs.Libraries.{objects_from}
 use Rattle.ceil_runtime.specs.Acted.{IsDoing}
 use Rattle.ceil_runtime.specs.Objects.{first_object, lasting, shown, store_of}
 use Rattle.ceil_runtime.specs.Processing.{IsSound}

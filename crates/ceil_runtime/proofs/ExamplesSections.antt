@@ -4,7 +4,6 @@ use Rattle.std.proofs.Common.{ap, sym, ◌∙◌, arith}
 use Rattle.seq_tree.specs.Variables.{Variables}
 use Rattle.ada_tree.specs.Trees.{unit_of}
 use Rattle.ada_tree.specs.declared.program.Unit as units
-use Rattle.task_runtime.specs.Libraries.{objects_from}
 use Rattle.ceil_runtime.specs.Objects.{AreObjectsOf, first_object, lasting, shown}
 use Rattle.ceil_runtime.specs.Stepping.{HasOp, HasStopped}
 use Rattle.task_runtime.specs.Written.{system_of}
@@ -12,6 +11,7 @@ use Rattle.ceil_runtime.specs.declared.object.Object as objects
 use Rattle.ceil_runtime.specs.declared.processor.Machine.{Machine}
 use Rattle.linked_task.specs.declared.task.Task.{Task}
 use Rattle.task_runtime.proofs.Shared.ExampleSystem.{object, three}
+use Rattle.machine.specs.Systems.{objects_from}
 
 -- what lasts of an object is all but its data
 lasts : (store : Variables) → lasting (record (first_object object) { store = store }) ≡ lasting (first_object object)

@@ -17,7 +17,7 @@ use Rattle.arrivals_tree.specs.Arriving.{durations}
 use Rattle.arrivals_tree.specs.declared.arrivals.WorkList.{WorkList}
 use Rattle.machine.specs.Systems.{thread_by}
 use Rattle.ceil_runtime.specs.Gathering.{Adds, AllThreads, IsThreadOf}
-use Rattle.task_runtime.specs.Libraries.{handed, threads_from}
+use Rattle.task_runtime.specs.Libraries.{handed, handed_threads}
 use Rattle.task_runtime.specs.Written.{block_of_thread, form_by, thread_of, timing_of, written_as}
 use Rattle.task_runtime.specs.declared.thread.Timing.{Timing}
 use Rattle.task_runtime.specs.declared.thread.Timing.TheVariants as timing
@@ -96,12 +96,12 @@ pub shared-none : (work : List WorkList) (place : ℕ) (u : units.Unit) (ceiling
     → thread_by (durations (handed work) place) place (unit_of u).name (unit_of u).form ≡ None
 shared-none work place u ceiling vars ops is = ap (λ f. thread_by (durations (handed work) place) place u.name (form_of f)) is
 
-threads-cons : (work : List WorkList) (n : ℕ) (u : Unit) (us : List Unit) → threads_from work n (u ∷ us)
-    ≡ option_to_list (thread_by (durations (handed work) n) n u.name u.form) ++ threads_from work (n + 1) us
+threads-cons : (work : List WorkList) (n : ℕ) (u : Unit) (us : List Unit) → handed_threads work n (u ∷ us)
+    ≡ option_to_list (thread_by (durations (handed work) n) n u.name u.form) ++ handed_threads work (n + 1) us
 threads-cons work n u us = by_form u.form
   where
-    by_form : (f : Form) → threads_from work n (record { name = u.name; form = f } ∷ us)
-        ≡ option_to_list (thread_by (durations (handed work) n) n u.name f) ++ threads_from work (n + 1) us
+    by_form : (f : Form) → handed_threads work n (record { name = u.name; form = f } ∷ us)
+        ≡ option_to_list (thread_by (durations (handed work) n) n u.name f) ++ handed_threads work (n + 1) us
     by_form (Passive ops) = refl
     by_form (Shared ceiling vars ops) = refl
     by_form (Cyclic priority offset period vars block) = refl
@@ -109,7 +109,7 @@ threads-cons work n u us = by_form u.form
 
 -- the tasks so far, with those of the units that are left
 abbrev pub AreGathered : List WorkList → List units.Unit → ℕ → List Thread → Type 0
-AreGathered work us n ts = map thread_of ts ++ threads_from work n (map unit_of (drop n us)) ≡ threads_from work 0 (map unit_of us)
+AreGathered work us n ts = map thread_of ts ++ handed_threads work n (map unit_of (drop n us)) ≡ handed_threads work 0 (map unit_of us)
 
 module _ (work : List WorkList) (us : List units.Unit) (n : ℕ) (u : units.Unit) (h : n < length us) (is : u ≡ get_or us n u) where
   from_here : map unit_of (drop n us) ≡ unit_of u ∷ map unit_of (drop (n + 1) us)
@@ -120,14 +120,14 @@ module _ (work : List WorkList) (us : List units.Unit) (n : ℕ) (u : units.Unit
 
   pub gathered-more : (ts ts' : List Thread) → Adds work us n u ts ts' → AreGathered work us n ts → AreGathered work us (n + 1) ts'
   gathered-more ts ts' a so_far =
-      let rest = threads_from work (n + 1) (map unit_of (drop (n + 1) us)) in
+      let rest = handed_threads work (n + 1) (map unit_of (drop (n + 1) us)) in
       ap (λ xs. xs ++ rest) a.threads ∙ append_assoc (map thread_of ts)
       (option_to_list (thread_by (durations (handed work) n) n (unit_of u).name (unit_of u).form)) rest
-      ∙ ap (λ xs. map thread_of ts ++ xs) (sym (threads-cons work n (unit_of u) (map unit_of (drop (n + 1) us))) ∙ ap (threads_from work n)
+      ∙ ap (λ xs. map thread_of ts ++ xs) (sym (threads-cons work n (unit_of u) (map unit_of (drop (n + 1) us))) ∙ ap (handed_threads work n)
       (sym from_here)) ∙ so_far
 
 pub gathered-all : (work : List WorkList) (us : List units.Unit) (n : ℕ) (ts : List Thread) → length us ≤ n → AreGathered work us n ts
-    → map thread_of ts ≡ threads_from work 0 (map unit_of us)
+    → map thread_of ts ≡ handed_threads work 0 (map unit_of us)
 gathered-all work us n ts past so_far =
-    sym (append-nil (map thread_of ts)) ∙ ap (λ xs. map thread_of ts ++ threads_from work n (map unit_of xs))
+    sym (append-nil (map thread_of ts)) ∙ ap (λ xs. map thread_of ts ++ handed_threads work n (map unit_of xs))
     (sym (drop_of_length-le us past)) ∙ so_far

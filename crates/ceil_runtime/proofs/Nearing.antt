@@ -14,7 +14,6 @@ use Rattle.task_runtime.specs.Effort.{effort, most_ends, own_vars}
 use Rattle.ceil_runtime.specs.Processing.{AllTasks, IsKept, system_by}
 use Rattle.ceil_runtime.specs.Left.{effort_of, ran_effort}
 use Rattle.ceil_runtime.specs.Stepping.{steps_by}
-use Rattle.task_runtime.specs.Libraries.{libraries_from, objects_from}
 use Rattle.linked_task.specs.Works.{task_of}
 use Rattle.task_runtime.specs.Written.{system_of, params_of, reserve, thread_of}
 use Rattle.linked_task.specs.declared.task.Task.{Task}
@@ -22,6 +21,7 @@ use Rattle.linker.specs.declared.program.LinkedUnits.{LinkedUnits}
 use Rattle.ceil_runtime.specs.Snapshots.{AreAtWork}
 use Rattle.ceil_runtime.specs.declared.processor.Phase.TheVariants.{Effects, Use}
 use Rattle.linked_task.proofs.Shared.AtWork.{effort-few}
+use Rattle.machine.specs.Systems.{libraries_from, objects_from}
 
 -- the sum of a list by its first number
 fold-from : (a : ℕ) (xs : List ℕ) → fold ◌+◌ a xs ≡ a + fold ◌+◌ 0 xs

@@ -10,9 +10,8 @@ use Rattle.ada_tree.specs.Programs.{Form, Unit, Passive, Shared, Cyclic, Sporadi
 use Rattle.ada_tree.specs.Trees.{form_of, unit_of}
 use Rattle.ada_tree.specs.declared.program.Form as forms
 use Rattle.ada_tree.specs.declared.program.Unit as units
-use Rattle.machine.specs.Systems.{ProtectedUnit, object_by}
+use Rattle.machine.specs.Systems.{ProtectedUnit, object_by, objects_from}
 use Rattle.task_runtime.specs.Fitting.{names_of}
-use Rattle.task_runtime.specs.Libraries.{objects_from}
 use Rattle.ceil_runtime.specs.Objects.{AddsObject, ObjectShown, first_object, shown, store_of}
 use Rattle.ceil_runtime.specs.declared.object.Object.{Object}
 use Rattle.task_runtime.proofs.Shared.UnitsAt.{units-at}

@@ -5,10 +5,9 @@ use Rattle.std.proofs.lemmas.Option.{same_Some, slice_get-map}
 use Rattle.seq_tree.specs.declared.tree.Costs.{Costs}
 use Rattle.ada_tree.specs.Trees.{unit_of}
 use Rattle.ada_tree.specs.declared.program.Unit as units
-use Rattle.machine.specs.Systems.{ProtectedUnit, System}
+use Rattle.machine.specs.Systems.{ProtectedUnit, System, objects_from}
 use Rattle.machine.specs.Effects.{ceiling_of, object_unit}
 use Rattle.machine.specs.States.{Object as InObject}
-use Rattle.task_runtime.specs.Libraries.{objects_from}
 use Rattle.ceil_runtime.specs.Objects.{AreObjectsOf, first_object, lasting, shown, store_of}
 use Rattle.ceil_runtime.specs.Processing.{system_by}
 use Rattle.ceil_runtime.specs.declared.object.Object.{Object}

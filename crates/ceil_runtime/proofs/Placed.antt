@@ -17,8 +17,7 @@ use Rattle.trace_tree.specs.declared.event.Event.{Event}
 use Rattle.trace_tree.specs.declared.event.Event.TheVariants as event
 use Rattle.trace_tree.specs.Lines.{unit_ops}
 use Rattle.trace_tree.specs.Placed.{IsOp, IsPlaced, IsUnit}
-use Rattle.machine.specs.Systems.{ProtectedUnit, TaskUnit, thread_by, system}
-use Rattle.task_runtime.specs.Libraries.{objects_from}
+use Rattle.machine.specs.Systems.{ProtectedUnit, TaskUnit, thread_by, system, objects_from}
 use Rattle.ceil_runtime.specs.Processing.{AllTasks, IsKept}
 use Rattle.ceil_runtime.specs.Stepping.{AreOfTask, HasObject, HasOp, HasUnit, IsOfTask, Nothing, One, Told, Two, told_of}
 use Rattle.task_runtime.specs.Written.{system_of, thread_of}

@@ -8,7 +8,7 @@ use Rattle.seq_tree.specs.declared.tree.Costs.{Costs}
 use Rattle.ada_tree.specs.declared.program.Unit as units
 use Rattle.link_queue.specs.Queues.{Entry, IsApart, IsFree, Queues, in_time, wakes_before}
 use Rattle.link_queue.proofs.Shared.Lists.{each-map, each-put, in_order-time}
-use Rattle.machine.specs.Systems.{System}
+use Rattle.machine.specs.Systems.{System, objects_from}
 use Rattle.machine.specs.Meanings.{Running}
 use Rattle.machine.specs.States as states
 use Rattle.machine.specs.States.{Asleep, first_task, first_time, first_wait, opening}
@@ -29,7 +29,7 @@ use Rattle.linked_task.specs.Works.{IsFresh, task_of}
 use Rattle.task_runtime.specs.Insides.{inside_of}
 use Rattle.ada_tree.specs.Trees.{unit_of}
 use Rattle.ceil_runtime.specs.Gathering.{AllThreads, IsThreadOf}
-use Rattle.task_runtime.specs.Libraries.{no_costs, objects_from, system_from, threads_from}
+use Rattle.task_runtime.specs.Libraries.{no_costs, system_from, handed_threads}
 use Rattle.arrivals_tree.specs.declared.arrivals.WorkList.{WorkList}
 use Rattle.std.proofs.lemmas.Option.{same_Some, slice_get-map}
 use Rattle.task_runtime.specs.Written.{system_of, thread_of, timing_of}
@@ -249,7 +249,7 @@ open-alike us threads tasks same all = λ i t at.
     ap (λ ths. record (system_for 0 no_costs us threads) { threads = ths }) (ap (map thread_of) (sym same) ∙ sym (threads-of tasks)) in
     all i t.progress.stack.thread here ∙ system
 
-pub start-alike : (work : List WorkList) (us : List units.Unit) (ts : List Thread) → map thread_of ts ≡ threads_from work 0 (map unit_of us)
+pub start-alike : (work : List WorkList) (us : List units.Unit) (ts : List Thread) → map thread_of ts ≡ handed_threads work 0 (map unit_of us)
     → AllThreads (IsThreadOf work us) ts
     → AllThreads (λ t. system_of t ≡ system_for 0 no_costs us ts) ts
 start-alike work us ts are each = λ i t at.

@@ -5,8 +5,7 @@ use Rattle.seq_tree.specs.Variables.{Variables, written}
 use Rattle.seq_tree.specs.declared.tree.Datum.{Datum}
 use Rattle.ada_tree.specs.Trees.{unit_of}
 use Rattle.ada_tree.specs.declared.program.Unit as units
-use Rattle.machine.specs.Systems.{ProtectedUnit, object_by}
-use Rattle.task_runtime.specs.Libraries.{objects_from}
+use Rattle.machine.specs.Systems.{ProtectedUnit, object_by, objects_from}
 use Rattle.task_runtime.specs.Stacked.{vars_of}
 use Rattle.ceil_runtime.specs.declared.object.Object.{Object}
 

@@ -9,11 +9,11 @@ use Rattle.ada_tree.specs.declared.program.Unit as units
 use Rattle.arrivals_tree.specs.declared.arrivals.Arrival.{Arrival}
 use Rattle.trace_tree.specs.declared.event.Event.{Event}
 use Rattle.link_queue.specs.Queues.{Entry, Each, Queues, at_head}
-use Rattle.machine.specs.Systems.{System}
+use Rattle.machine.specs.Systems.{System, libraries_from, objects_from}
 use Rattle.machine.specs.States as states
 use Rattle.machine.specs.Meanings.{Running, Rest}
 use Rattle.law_dispatching.specs.Queueing.{AreQueued, AreSleeping, places}
-use Rattle.task_runtime.specs.Libraries.{libraries_from, objects_from, no_costs}
+use Rattle.task_runtime.specs.Libraries.{no_costs}
 use Rattle.task_runtime.specs.Readies.{is_ready}
 use Rattle.task_runtime.specs.Works.{IsNested}
 use Rattle.linked_task.specs.Works.{task_of}

@@ -6,12 +6,11 @@ use Rattle.seq_tree.specs.declared.tree.Costs.{Costs}
 use Rattle.ada_tree.specs.Trees.{unit_of}
 use Rattle.ada_tree.specs.declared.program.Unit as units
 use Rattle.link_queue.specs.Queues.{Queues, in_time}
-use Rattle.machine.specs.Systems.{System}
+use Rattle.machine.specs.Systems.{System, libraries_from, objects_from}
 use Rattle.machine.specs.Meanings.{Running}
 use Rattle.machine.specs.States.{first_task, first_time, opening}
 use Rattle.law_dispatching.specs.Queueing.{AreSleeping}
 use Rattle.ceil_runtime.specs.Processing.{AllTasks, IsKept}
-use Rattle.task_runtime.specs.Libraries.{libraries_from, objects_from}
 use Rattle.linked_task.specs.Works.{task_of}
 use Rattle.task_runtime.specs.Written.{durations_of, thread_of, timing_of}
 use Rattle.task_runtime.specs.declared.thread.Thread.{Thread}

@@ -2,8 +2,8 @@ ghost use Rattle.std.specs.Prelude.{◌≡◌, ◌+◌, ◌++◌, ◌≤◌, ◌
 ghost use Rattle.seq_tree.specs.Variables.{written};
 ghost use Rattle.task_runtime.specs.Stacked.{vars_of};
 ghost use Rattle.ada_tree.specs.Trees.{unit_of};
-ghost use Rattle.task_runtime.specs.Libraries.{objects_from};
 ghost use Rattle.ceil_runtime.specs.Objects.{AddsObject, first_object, shown};
+ghost use Rattle.machine.specs.Systems.{objects_from};
 
 use crate::object::Object;
 use ada_tree::{Form, Unit};

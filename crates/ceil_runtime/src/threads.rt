@@ -1,6 +1,6 @@
 ghost use Rattle.std.specs.Prelude.{◌≡◌, ◌≤◌, ◌<◌, map, length, vec_len, vec_capacity, IfOk};
 ghost use Rattle.ada_tree.specs.Trees.{unit_of};
-ghost use Rattle.task_runtime.specs.Libraries.{threads_from};
+ghost use Rattle.task_runtime.specs.Libraries.{handed_threads};
 ghost use Rattle.task_runtime.specs.Written.{thread_of};
 ghost use Rattle.ceil_runtime.specs.Gathering.{Adds, AllThreads, IsThreadOf};
 
@@ -79,7 +79,7 @@ pub fn threads_in<'a>(
     work: &'a [WorkList],
 ) -> Result<Vec<Thread<'a>>, NoMemory>
     requires few { length units.now ≤ 500 }
-    ensures all { IfOk result (λ ts. map thread_of ts.items ≡ threads_from work.entry.now 0 (map unit_of units.entry.now)) }
+    ensures all { IfOk result (λ ts. map thread_of ts.items ≡ handed_threads work.entry.now 0 (map unit_of units.entry.now)) }
     ensures each { IfOk result (λ ts. AllThreads (IsThreadOf work.entry.now units.entry.now) ts.items) }
     ensures few { IfOk result (λ ts. length ts.items ≤ length units.entry.now) }
 {

@@ -9,7 +9,7 @@ use Rattle.law_flat_code.specs.Codes.{block_size}
 use Rattle.law_flat_code.specs.Withins.{scope_within, within}
 use Rattle.law_flat_code.proofs.Shared.Ends.{block_ends, scope_ends}
 use Rattle.linked.specs.Slots.{vars_at}
-use Rattle.linker.specs.Programs.{param_names, request_params}
+use Rattle.linker.specs.Programs.{param_names}
 use Rattle.linker.specs.Scopes.{slots_of}
 use Rattle.linker.specs.Standing.{lists_of}
 use Rattle.linker.specs.declared.code.Ins.TheVariants as ins
@@ -30,6 +30,7 @@ use Rattle.linked_task.proofs.Distinct.{kept_slots}
 use Rattle.linked_task.proofs.Orders.{order}
 use Rattle.linked_task.proofs.Stacks.{last_by, room_by}
 use Rattle.linked_task.proofs.Steps.{as_there}
+use Rattle.machine.specs.Systems.{request_params}
 
 returns_last : (fs : List Frame) → last_by ins.Return fs ≡ ins.Return
 returns_last [] = refl

@@ -8,10 +8,10 @@ use Rattle.seq_tree.specs.declared.tree.Param.{Param}
 use Rattle.ada_tree.specs.Trees.{unit_of}
 use Rattle.machine.specs.Pieces as pieces
 use Rattle.machine.specs.Releases.{parameter}
-use Rattle.machine.specs.Systems.{System, ReleasePattern, Periodic, Requested}
+use Rattle.machine.specs.Systems.{System, ReleasePattern, Periodic, Requested, request_params}
 use Rattle.law_flat_code.specs.Codes.{TaskStands}
 use Rattle.linked.specs.Slots.{vars_at}
-use Rattle.linker.specs.Programs.{AreLinked, datum_names, param_names, request_params, task_part}
+use Rattle.linker.specs.Programs.{AreLinked, datum_names, param_names, task_part}
 use Rattle.linker.specs.Scopes.{slots_of}
 use Rattle.linker.specs.Standing.{Has, lists_of}
 use Rattle.linker.specs.declared.code.Ins.TheVariants as ins

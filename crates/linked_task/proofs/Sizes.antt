@@ -5,7 +5,7 @@ use Rattle.std.specs.Prelude.{vec_capacity}
 use Rattle.seq_tree.specs.declared.tree.Datum.{Datum}
 use Rattle.seq_tree.specs.declared.tree.Param.{Param}
 use Rattle.linker.specs.Callees.{body_of}
-use Rattle.linker.specs.Programs.{datum_names, op_part, param_names, request_params, task_part}
+use Rattle.linker.specs.Programs.{datum_names, op_part, param_names, task_part}
 use Rattle.linker.specs.declared.program.LinkedUnits.{LinkedUnits}
 use Rattle.task_runtime.specs.Written.{thread_of, timing_of}
 use Rattle.task_runtime.specs.declared.thread.Timing.TheVariants.{Periodic, Requested}
@@ -16,6 +16,7 @@ use Rattle.linked_task.specs.declared.piece.Frame.{Frame}
 use Rattle.linked_task.specs.declared.stack.Stack.{Stack}
 use Rattle.linked_task.proofs.Calls.{long_here, names_count}
 use Rattle.linked_task.proofs.Stacks.{owner_pushed}
+use Rattle.machine.specs.Systems.{request_params}
 
 no_frames : (fs : List Frame) → length fs ≡ 0 → fs ≡ []
 no_frames [] e = refl

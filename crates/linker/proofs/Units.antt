@@ -15,9 +15,9 @@ use Rattle.ada_tree.specs.Programs.{Unit, Passive, Shared, Cyclic, Sporadic}
 use Rattle.ada_tree.specs.Trees.{form_of, unit_of}
 use Rattle.ada_tree.specs.declared.program.Form.TheVariants as form
 use Rattle.ada_tree.specs.declared.program.Unit as units
-use Rattle.machine.specs.Systems.{ProtectedUnit, TaskUnit, op_named, plain_by, protected_by}
+use Rattle.machine.specs.Systems.{ProtectedUnit, TaskUnit, op_named, plain_by, protected_by, libraries_from, objects_from, threads_from}
 use Rattle.machine.specs.Systems as to
-use Rattle.linker.specs.Callees.{IsLed, OpBody, Passes, libraries_from, objects_from, target_among, threads_from}
+use Rattle.linker.specs.Callees.{IsLed, OpBody, Passes, target_among}
 use Rattle.linker.specs.Leads.{Request, Nowhere}
 
 pub library_here : (name : Name) (os : List Operation) (n i m k : ℕ) (us : List Unit) (gs : List ProtectedUnit) (ts : List TaskUnit)

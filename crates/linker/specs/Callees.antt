@@ -1,15 +1,14 @@
 -- What calls lead to in a program, by tables: units by their names, and for each its operations by theirs.
 -- Operations with bodies are counted as they are found, through all units.
-use Rattle.std.specs.Prelude.{◌≡◌, ℕ, false, List, [], ◌++◌, Option, Some, None, slice_get, filter_map, option_map, if◌then◌else◌}
-use Rattle.std.specs.List.{enumerate_from}
+use Rattle.std.specs.Prelude.{◌≡◌, ℕ, false, List, [], ◌++◌, Option, Some, None, slice_get, option_map, if◌then◌else◌}
 use Rattle.seq_tree.specs.Lists.{first_from}
 use Rattle.seq_tree.specs.Names.{Name, same_name}
 use Rattle.seq_tree.specs.Operations.{Operation}
 use Rattle.seq_tree.specs.Trees.{operation_of}
 use Rattle.seq_tree.specs.declared.tree.Datum.{Datum}
 use Rattle.ada_tree.specs.Programs.{Unit}
-use Rattle.machine.specs.Systems.{System, PassiveUnit, ProtectedUnit, TaskUnit, CallTarget, callee, library_by, library_or, object_by, object_or}
-use Rattle.machine.specs.Systems.{op_named, request_by, thread_by}
+use Rattle.machine.specs.Systems.{System, PassiveUnit, ProtectedUnit, TaskUnit, CallTarget, callee, library_or, object_or, op_named}
+use Rattle.machine.specs.Systems.{libraries_from, objects_from, request_by, threads_from}
 use Rattle.machine.specs.Systems as to
 use Rattle.name_sets.specs.Tables.{named}
 use Rattle.name_sets.specs.declared.name_table.NameTable.{NameTable}
@@ -49,16 +48,6 @@ IsLed bodies (to.Protected object place g o) w =
     (k : ℕ) × (w ≡ Body k o.sig.params) × (slice_get bodies k ≡ Some (record { owner = Some (object, place); vars = g.vars; op = o }))
 IsLed bodies (to.Request task) w = w ≡ Request task
 IsLed bodies to.Unknown w = w ≡ Nowhere
-
--- the passive units, the protected objects and the tasks among units, which are counted from this number on
-abbrev pub libraries_from : ℕ → List Unit → List PassiveUnit
-libraries_from n us = filter_map (λ u. library_by u.0 u.1.name u.1.form) (enumerate_from n us)
-
-abbrev pub objects_from : ℕ → List Unit → List ProtectedUnit
-objects_from n us = filter_map (λ u. object_by u.0 u.1.name u.1.form) (enumerate_from n us)
-
-abbrev pub threads_from : (ℕ → List ℕ) → ℕ → List Unit → List TaskUnit
-threads_from durations n us = filter_map (λ u. thread_by (durations u.0) u.0 u.1.name u.1.form) (enumerate_from n us)
 
 -- a system of these units
 pub record IsSystemOf (us : List Unit) (y : System) : Type 0 where

@@ -7,7 +7,7 @@ use Rattle.seq_tree.specs.Variables.{Variables}
 use Rattle.seq_tree.specs.declared.tree.Datum.{Datum}
 use Rattle.seq_tree.specs.declared.tree.Param.{Param}
 use Rattle.ada_tree.specs.Programs.{Unit}
-use Rattle.machine.specs.Systems.{System, TaskUnit, ReleasePattern, Periodic, Requested, callee}
+use Rattle.machine.specs.Systems.{System, TaskUnit, callee, request_params}
 use Rattle.linked.specs.Nodes.{AreOrdered}
 use Rattle.law_flat_code.specs.Codes.{BodyStands, TaskStands}
 use Rattle.linker.specs.Callees.{IsLed, IsSystemOf, OpBody, body_of}
@@ -31,11 +31,6 @@ datum_names vars = map (λ d. d.name) vars
 -- the body of an operation, which knows its parameters, its locals and the data of its object
 abbrev pub op_part : OpBody → Part
 op_part b = record { names = param_names b.op.sig.params ++ (datum_names b.op.locals ++ datum_names b.vars); block = b.op.block }
-
--- the parameters of a task's request
-abbrev pub request_params : ReleasePattern → List Param
-request_params (Periodic offset period) = []
-request_params (Requested op ceiling separation jitter external) = op.params
 
 -- the block of a task, which knows the parameter of its request and its data
 abbrev pub task_part : TaskUnit → Part

@@ -4,12 +4,13 @@ ghost use Rattle.seq_tree.specs.Trees.{block_of, operation_of};
 ghost use Rattle.ada_tree.specs.Programs.{Unit as UnitTree};
 ghost use Rattle.ada_tree.specs.Trees.{unit_of};
 ghost use Rattle.linker.specs.Bodies.{LinksBody};
-ghost use Rattle.linker.specs.Callees.{body_of, threads_from};
+ghost use Rattle.linker.specs.Callees.{body_of};
 ghost use Rattle.linker.specs.Parts.{PartsLeft};
 ghost use Rattle.linker.specs.Programs.{AreLinked, Part, datum_names, op_part, param_names, task_part};
 ghost use Rattle.linker.specs.Scopes.{slots_of};
 ghost use Rattle.linker.specs.Standing.{Lists, lists_of};
 ghost use Rattle.linker.specs.declared.code.Ins.TheVariants as InsIs;
+ghost use Rattle.machine.specs.Systems.{threads_from};
 
 use crate::body::link_body;
 use crate::callees::Calls;

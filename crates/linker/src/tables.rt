@@ -3,10 +3,10 @@ ghost use Rattle.seq_tree.specs.Names.{Name as NameBytes, same_name};
 ghost use Rattle.seq_tree.specs.Trees.{operation_of};
 ghost use Rattle.ada_tree.specs.Programs.{Unit as UnitTree};
 ghost use Rattle.ada_tree.specs.Trees.{unit_of};
-ghost use Rattle.machine.specs.Systems.{System, CallTarget, ProtectedUnit, TaskUnit, callee, op_named};
+ghost use Rattle.machine.specs.Systems.{System, CallTarget, ProtectedUnit, TaskUnit, callee, op_named, libraries_from, objects_from, threads_from};
 ghost use Rattle.name_sets.specs.Tables.{named};
 ghost use Rattle.linker.specs.Callees.{AddsBodies, AreEntered, AreLed, IsFound, IsLed, IsSystemOf, Passes, body_of, lead_by, lead_found};
-ghost use Rattle.linker.specs.Callees.{libraries_from, objects_from, target_among, threads_from};
+ghost use Rattle.linker.specs.Callees.{target_among};
 ghost use Rattle.linker.specs.Leads.{Request as Requests, Nowhere as LeadsNowhere};
 ghost use Rattle.linker.specs.Targets.{leads_of};
 

@@ -1,14 +1,15 @@
 -- What programs tell that the other examples leave open: overruns, requests that wait, long durations, inner sections.
-use Rattle.std.specs.Prelude.{ℕ, true, List, [], ◌∷◌, Some, None, codes}
+use Rattle.std.specs.Prelude.{◌≡◌, ℕ, true, List, [], ◌∷◌, Some, None, codes, map}
 use Rattle.std.proofs.Common.{refl}
 use Rattle.seq_tree.specs.Names.{Name}
 use Rattle.seq_tree.specs.Statements.{Statement, Statements, Null, Call, Work, End, Then}
 use Rattle.seq_tree.specs.Operations.{Operation}
 use Rattle.seq_tree.specs.declared.tree.Costs.{Costs}
 use Rattle.seq_tree.specs.declared.tree.Mode.TheVariants.{In}
-use Rattle.ada_tree.specs.Programs.{Unit, Program, Shared, Cyclic, Sporadic}
+use Rattle.ada_tree.specs.Programs.{Unit, Program, Passive, Shared, Cyclic, Sporadic}
 use Rattle.trace_tree.specs.declared.event.Event.TheVariants as event
 use Rattle.machine.specs.Meanings.{Meaning}
+use Rattle.machine.specs.Systems.{Periodic, Requested, libraries_from, objects_from, request_params, threads_from}
 
 abbrev unit_costs : Costs
 unit_costs = record { assign = 1; test = 1; turn = 1; call = 2; nothing = 1; put = 1; finish = 1 }
@@ -64,3 +65,31 @@ outer_priority : Meaning (program (shared (codes "q") 2 (two (call (codes "e")) 
     ∷ event.Leave 7 2 0 0 []
     ∷ event.End 9 3 2 ∷ event.End 10 2 8 ∷ event.Horizon 12 ∷ [])
 outer_priority = record { steps = 100; stops = refl; tells = refl }
+
+-- among a task, a protected object and a passive unit, each is found alone, with its place among all
+abbrev units : List Unit
+units =
+    cyclic (codes "a") 1 0 3 (one Null) ∷ shared (codes "k") 2 (one Null) ∷ record { name = codes "p"; form = Passive (set (one Null) ∷ []) } ∷ []
+
+passive_units : map (λ l. l.unit) (libraries_from 4 units) ≡ 6 ∷ []
+passive_units = refl
+
+protected_objects : map (λ o. o.unit) (objects_from 4 units) ≡ 5 ∷ []
+protected_objects = refl
+
+tasks : map (λ t. t.unit) (threads_from (λ n. n ∷ []) 4 units) ≡ 4 ∷ []
+tasks = refl
+
+tasks_with_durations : map (λ t. t.durations) (threads_from (λ n. n ∷ []) 4 units) ≡ (4 ∷ []) ∷ []
+tasks_with_durations = refl
+
+no_tasks : threads_from (λ n. []) 0 (shared (codes "k") 2 (one Null) ∷ []) ≡ []
+no_tasks = refl
+
+-- a task that is requested has the parameters of its requests, and one with a period has none
+params_of_requests : map (λ p. p.name) (request_params (Requested (record
+    { name = codes "start"; params = record { name = codes "v"; mode = In } ∷ [] }) 3 0 0 true)) ≡ codes "v" ∷ []
+params_of_requests = refl
+
+no_params : request_params (Periodic 0 3) ≡ []
+no_params = refl

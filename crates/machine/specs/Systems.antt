@@ -6,8 +6,9 @@ use Rattle.seq_tree.specs.Names.{Name, same_name}
 use Rattle.seq_tree.specs.Statements.{Statements}
 use Rattle.seq_tree.specs.Operations.{Signature, Operation}
 use Rattle.seq_tree.specs.declared.tree.Datum.{Datum}
+use Rattle.seq_tree.specs.declared.tree.Param.{Param}
 use Rattle.seq_tree.specs.declared.tree.Costs.{Costs}
-use Rattle.ada_tree.specs.Programs.{Form, Program, Passive, Shared, Cyclic, Sporadic}
+use Rattle.ada_tree.specs.Programs.{Form, Unit, Program, Passive, Shared, Cyclic, Sporadic}
 use Rattle.arrivals_tree.specs.Arriving.{Arrivals, durations}
 use Rattle.seq_tree.specs.Lists.{first_where}
 
@@ -15,6 +16,11 @@ use Rattle.seq_tree.specs.Lists.{first_where}
 pub data ReleasePattern : Type 0 where
   Periodic : (offset period : ℕ) → ReleasePattern
   Requested : (op : Signature) (ceiling separation jitter : ℕ) (external : Bool) → ReleasePattern
+
+-- the parameters of the requests that release a task
+abbrev pub request_params : ReleasePattern → List Param
+request_params (Periodic offset period) = []
+request_params (Requested op ceiling separation jitter external) = op.params
 
 -- a task as it is written, and how long its `work` statements take
 pub record TaskUnit : Type 0 where
@@ -85,14 +91,24 @@ thread_by durations' unit name (Sporadic priority ceiling op separation jitter e
   durations = durations';
 })
 
+-- the passive units, the protected objects and the tasks among units, which are counted from this number on
+abbrev pub libraries_from : ℕ → List Unit → List PassiveUnit
+libraries_from n us = filter_map (λ u. library_by u.0 u.1.name u.1.form) (enumerate_from n us)
+
+abbrev pub objects_from : ℕ → List Unit → List ProtectedUnit
+objects_from n us = filter_map (λ u. object_by u.0 u.1.name u.1.form) (enumerate_from n us)
+
+abbrev pub threads_from : (ℕ → List ℕ) → ℕ → List Unit → List TaskUnit
+threads_from durations' n us = filter_map (λ u. thread_by (durations' u.0) u.0 u.1.name u.1.form) (enumerate_from n us)
+
 -- what runs of a program under these arrivals
 abbrev pub system : Program → Arrivals → System
 system p a = record {
   until = a.until;
   costs = p.costs;
-  libraries = filter_map (λ u. library_by u.0 u.1.name u.1.form) (enumerate_from 0 p.units);
-  objects = filter_map (λ u. object_by u.0 u.1.name u.1.form) (enumerate_from 0 p.units);
-  threads = filter_map (λ u. thread_by (durations a u.0) u.0 u.1.name u.1.form) (enumerate_from 0 p.units);
+  libraries = libraries_from 0 p.units;
+  objects = objects_from 0 p.units;
+  threads = threads_from (durations a) 0 p.units;
 }
 
 -- what a call leads to

@@ -2,7 +2,7 @@
 use Rattle.std.proofs.Common.{ℕ, ◌+◌, List, []}
 use Rattle.ada_tree.specs.Programs.{Unit}
 use Rattle.task_runtime.specs.Callable.{libraries_room, objects_room}
-use Rattle.task_runtime.specs.Libraries.{libraries_from, objects_from}
+use Rattle.machine.specs.Systems.{libraries_from, objects_from}
 
 -- the room for the calls of units that are counted from this number on
 abbrev pub room_from : ℕ → List Unit → ℕ

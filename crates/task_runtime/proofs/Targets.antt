@@ -15,9 +15,10 @@ use Rattle.ada_tree.specs.Bodies.{bodies, heads, op_body}
 use Rattle.ada_tree.specs.Uses.{is_confined, is_empty, is_shared, passive_ops, shared_ops}
 use Rattle.arrivals_tree.specs.declared.arrivals.WorkList.{WorkList}
 use Rattle.machine.specs.Systems.{PassiveUnit, ProtectedUnit, TaskUnit, CallTarget, Plain, Protected, Request, Unknown, library_or, object_or}
+use Rattle.machine.specs.Systems.{libraries_from, objects_from}
 use Rattle.machine.specs.Systems.{op_named, plain_by, protected_by, request_by}
 use Rattle.task_runtime.specs.Callable.{is_known, op_by}
-use Rattle.task_runtime.specs.Libraries.{libraries_from, objects_from, threads_from}
+use Rattle.task_runtime.specs.Libraries.{handed_threads}
 use Rattle.task_runtime.proofs.CallLaws.{no_true, of_name}
 use Rattle.seq_tree.proofs.Shared.SameNames.{same-self, same-is}
 
@@ -80,7 +81,7 @@ module _ (work : List WorkList) where
   abbrev pub target_from : ℕ → ℕ → ℕ → ℕ → List Unit → OpName → CallTarget
   target_from n a b d us c = library_or c.op (first_from a (library_named c.object) (libraries_from n us))
       (object_or c.op (first_from b (object_named c.object) (objects_from n us))
-      (request_by c.op (first_from d (task_named c.object) (threads_from work n us))))
+      (request_by c.op (first_from d (task_named c.object) (handed_threads work n us))))
 
   no_library : (w : Name) (n a : ℕ) (us : List Unit) → is_named (map (λ v. v.name) us) w ≡ false
       → first_from a (library_named w) (libraries_from n us) ≡ None

@@ -2,9 +2,8 @@
 -- A `work` takes the smaller of its number and the next duration that is handed in for the task, where there is one.
 use Rattle.std.specs.Prelude.{ℕ, suc, ◌+◌, ◌<◌, IfSome, List, [], ◌∷◌, Option, length, map, sum}
 use Rattle.seq_tree.specs.declared.tree.Costs.{Costs}
-use Rattle.seq_tree.specs.declared.tree.Param.{Param}
 use Rattle.machine.specs.Pieces.{Piece, Turned, Returning, Closing, Requested as Asked, ticks_of, works_of}
-use Rattle.machine.specs.Systems.{System, TaskUnit, ReleasePattern, Periodic, Requested}
+use Rattle.machine.specs.Systems.{System, TaskUnit, request_params}
 use Rattle.task_runtime.specs.Callable.{calls_room}
 
 -- the ticks of the first piece, with the duration that a `work` is handed
@@ -36,11 +35,6 @@ sections_among [] = 0
 sections_among (Closing object op vars outs stores caller ∷ ps) = suc (sections_among ps)
 sections_among (Asked task value ∷ ps) = suc (sections_among ps)
 sections_among (_ ∷ ps) = sections_among ps
-
--- the parameters of requests
-abbrev pub request_params : ReleasePattern → List Param
-request_params (Periodic offset period) = []
-request_params (Requested op ceiling separation jitter external) = op.params
 
 -- the variables that a task has outside of its loops
 abbrev pub own_vars : TaskUnit → ℕ

@@ -1,28 +1,19 @@
 -- The units of a program that a call may lead to, in order of its units: passive units, protected objects and tasks.
 -- Each has its place among all units.
-use Rattle.std.specs.Prelude.{ℕ, List, [], map, filter_map}
-use Rattle.std.specs.List.{enumerate_from}
+use Rattle.std.specs.Prelude.{ℕ, List, [], map}
 use Rattle.ada_tree.specs.Programs.{Unit}
 use Rattle.arrivals_tree.specs.Arriving.{Arrivals, durations}
 use Rattle.arrivals_tree.specs.declared.arrivals.WorkList.{WorkList}
 use Rattle.seq_tree.specs.declared.tree.Costs.{Costs}
-use Rattle.machine.specs.Systems.{System, PassiveUnit, ProtectedUnit, TaskUnit, library_by, object_by, thread_by}
-
--- the passive units
-abbrev pub libraries_from : ℕ → List Unit → List PassiveUnit
-libraries_from n us = filter_map (λ u. library_by u.0 u.1.name u.1.form) (enumerate_from n us)
-
--- the protected objects
-abbrev pub objects_from : ℕ → List Unit → List ProtectedUnit
-objects_from n us = filter_map (λ u. object_by u.0 u.1.name u.1.form) (enumerate_from n us)
+use Rattle.machine.specs.Systems.{System, TaskUnit, libraries_from, objects_from, threads_from}
 
 -- lists of durations alone, as they are handed to a run
 abbrev pub handed : List WorkList → Arrivals
 handed work = record { until = 0; work = map (λ w. record { task = w.task; ticks = w.ticks.items }) work; items = [] }
 
 -- the tasks, with the durations that are handed to them
-abbrev pub threads_from : List WorkList → ℕ → List Unit → List TaskUnit
-threads_from work n us = filter_map (λ u. thread_by (durations (handed work) u.0) u.0 u.1.name u.1.form) (enumerate_from n us)
+abbrev pub handed_threads : List WorkList → ℕ → List Unit → List TaskUnit
+handed_threads work n us = threads_from (durations (handed work)) n us
 
 -- what calls lead to depends neither on the horizon nor on the costs
 abbrev pub no_costs : Costs
@@ -35,5 +26,5 @@ system_from work us = record {
   costs = no_costs;
   libraries = libraries_from 0 us;
   objects = objects_from 0 us;
-  threads = threads_from work 0 us;
+  threads = handed_threads work 0 us;
 }

@@ -12,9 +12,8 @@ use Rattle.ada_tree.specs.Programs.{Form, Unit, Cyclic, Sporadic}
 use Rattle.ada_tree.specs.Trees.{unit_of}
 use Rattle.arrivals_tree.specs.Arriving.{durations}
 use Rattle.machine.specs.Systems as systems
-use Rattle.machine.specs.Systems.{System}
+use Rattle.machine.specs.Systems.{System, request_params}
 use Rattle.task_runtime.specs.Callable.{IsClear, call_room, calls_room, data_by, op_in, target_in}
-use Rattle.task_runtime.specs.Effort.{request_params}
 use Rattle.task_runtime.specs.Fitting.{FitsBlock, spot_of}
 use Rattle.task_runtime.specs.Libraries.{handed, system_from}
 use Rattle.task_runtime.specs.declared.thread.Thread.{Thread}

@@ -1,7 +1,7 @@
 ghost use Rattle.std.specs.Prelude.{◌≡◌, length};
 ghost use Rattle.machine.specs.Effects.{ceiling_by};
-ghost use Rattle.task_runtime.specs.Effort.{request_params};
 ghost use Rattle.task_runtime.specs.Written.{timing_of};
+ghost use Rattle.machine.specs.Systems.{request_params};
 
 use ada_tree::Unit;
 use arrivals_tree::WorkList;

@@ -24,10 +24,11 @@ use Rattle.ada_tree.specs.Proper.{IsProperProgram}
 use Rattle.ada_tree.specs.Rules.{At, Bodies, MeetsRules, Naming}
 use Rattle.arrivals_tree.specs.declared.arrivals.WorkList.{WorkList}
 use Rattle.machine.specs.Systems.{CallTarget, PassiveUnit, Plain, Protected, ProtectedUnit, ReleasePattern, Request, TaskUnit, Unknown, callee}
+use Rattle.machine.specs.Systems.{libraries_from, objects_from}
 use Rattle.machine.specs.Systems.{library_by, library_or, object_by, object_or, op_named, plain_by, protected_by, request_by, request_if}
 use Rattle.machine.specs.Systems as released
 use Rattle.linker.specs.Callees.{OpBody}
-use Rattle.task_runtime.specs.Libraries.{libraries_from, objects_from, system_from}
+use Rattle.task_runtime.specs.Libraries.{system_from}
 use Rattle.task_runtime.specs.Written.{block_of_thread, form_by, system_of, written_as}
 use Rattle.task_runtime.specs.declared.thread.Thread.{Thread}
 use Rattle.task_runtime.specs.declared.thread.Timing.{Timing}

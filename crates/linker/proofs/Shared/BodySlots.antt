@@ -10,10 +10,10 @@ use Rattle.seq_tree.specs.declared.tree.Mode.{Mode}
 use Rattle.seq_tree.specs.declared.tree.Mode.TheVariants.{In, Out}
 use Rattle.seq_tree.specs.declared.tree.Param.{Param}
 use Rattle.machine.specs.Releases.{parameter}
-use Rattle.machine.specs.Systems.{ReleasePattern, Periodic, Requested}
+use Rattle.machine.specs.Systems.{ReleasePattern, Periodic, Requested, request_params}
 use Rattle.linked.specs.Slots.{AreSlots, slot_at, vars_at}
 use Rattle.linker.specs.Callees.{OpBody}
-use Rattle.linker.specs.Programs.{datum_names, op_part, param_names, request_params}
+use Rattle.linker.specs.Programs.{datum_names, op_part, param_names}
 use Rattle.linker.specs.Scopes.{slots_of}
 use Rattle.linker.proofs.Keeping.{get_last, get_more}
 

@@ -31,13 +31,13 @@ use Rattle.task_runtime.specs.declared.thread.Thread.{Thread}
 use Rattle.task_runtime.specs.Callable.{IsClear, calls_by, is_in, is_known, op_name, target_in}
 use Rattle.task_runtime.specs.Fitting.{FitsBlock, FitsBranches, FitsIf, FitsStatement, Spot, in_branch, in_loop, spot_of}
 use Rattle.task_runtime.specs.Libraries.{system_from}
-use Rattle.task_runtime.specs.Effort.{request_params}
 use Rattle.task_runtime.specs.declared.thread.Timing.{Timing}
 use Rattle.task_runtime.specs.declared.thread.Timing.TheVariants as timing
 use Rattle.task_runtime.specs.Written.{CanCall, CanRun, block_of_thread, form_by, params_of, system_of, timing_of, written_as}
 use Rattle.task_runtime.proofs.CallLaws.{clear-next, in-append, in-behind, in-one, room-taken}
 use Rattle.task_runtime.proofs.Leading.{leads-somewhere, naming, no-ring, not_false, not_true, owned, owned-calls}
 use Rattle.task_runtime.proofs.Targets.{bodies-of, heads-of, ops_of}
+use Rattle.machine.specs.Systems.{request_params}
 
 -- what the names and constructs of a program that is read are within
 abbrev pub limits : Limits

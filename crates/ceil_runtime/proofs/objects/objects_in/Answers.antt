@@ -1,10 +1,10 @@
 use Rattle.std.proofs.Common.{ℕ, ◌+◌, ◌++◌, List, ap, arith, refl, subst, length, map}
 use Rattle.ada_tree.specs.Trees.{unit_of}
-use Rattle.task_runtime.specs.Libraries.{objects_from}
 use Rattle.ceil_runtime.specs.Objects.{AddsObject, first_object, shown}
 use Rattle.ceil_runtime.specs.declared.object.Object.{Object}
 use Rattle.ceil_runtime.proofs.ObjectsFound.{found-all, found-more}
 use Rattle.ceil_runtime.proofs.objects.objects_in.Goals as goal
+use Rattle.machine.specs.Systems.{objects_from}
 
 pub units-init : goal.units-init
 units-init c =

@@ -2,7 +2,7 @@ use Rattle.std.proofs.Common.{◌≡◌, ℕ, ◌+◌, List, ap, arith, refl, su
 use Rattle.std.specs.Prelude.{None, Some}
 use Rattle.ada_tree.specs.Trees.{unit_of}
 use Rattle.ceil_runtime.specs.Gathering.{Adds, AllThreads, IsThreadOf}
-use Rattle.task_runtime.specs.Libraries.{threads_from}
+use Rattle.task_runtime.specs.Libraries.{handed_threads}
 use Rattle.task_runtime.specs.Written.{thread_of}
 use Rattle.task_runtime.specs.declared.thread.Thread.{Thread}
 use Rattle.ceil_runtime.proofs.Gathered.{gathered-all, gathered-more, is-here}
@@ -13,7 +13,7 @@ units-init c =
     let none = c.in_ok-threads.ensures.items in
     record {
       place = refl;
-      gathered = ap (λ (ts : List Thread). map thread_of ts ++ threads_from c.args.work.now 0 (map unit_of c.args.units.now)) none;
+      gathered = ap (λ (ts : List Thread). map thread_of ts ++ handed_threads c.args.work.now 0 (map unit_of c.args.units.now)) none;
       each = subst (AllThreads (IsThreadOf c.args.work.now c.args.units.now)) (sym none) (λ i t at. absurd (nothing t at));
       few = let empty = ap length none in omega (arith, empty);
       room = c.in_ok-threads.ensures.capacity;

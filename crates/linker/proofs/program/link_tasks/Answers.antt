@@ -1,6 +1,5 @@
 use Rattle.std.proofs.Common.{◌≡◌, rules, [], ◌∷◌, map, ap, subst, ◌+◌}
 use Rattle.ada_tree.specs.Trees.{unit_of}
-use Rattle.linker.specs.Callees.{threads_from}
 use Rattle.linker.specs.Parts.{PartsLeft}
 use Rattle.linker.specs.Programs.{task_part}
 use Rattle.linker.specs.Standing.{lists_of}
@@ -8,6 +7,7 @@ use Rattle.linker.specs.declared.code.Ins.TheVariants as ins
 use Rattle.linker.proofs.Parting.{parts_all}
 use Rattle.linker.proofs.LinkSteps.{empty_of}
 use Rattle.linker.proofs.program.link_tasks.Goals as goal
+use Rattle.machine.specs.Systems.{threads_from}
 
 pub units-init : goal.units-init
 units-init g c = λ durations. (

@@ -1,11 +1,11 @@
 use Rattle.std.proofs.Common.{ℕ, List, length, map}
 use Rattle.ada_tree.specs.Trees.{unit_of}
-use Rattle.linker.specs.Callees.{threads_from}
 use Rattle.linker.specs.Parts.{PartsLeft}
 use Rattle.linker.specs.Programs.{task_part}
 use Rattle.linker.specs.Standing.{lists_of}
 use Rattle.linker.specs.declared.code.Ins.TheVariants as ins
 use Rattle.linker.proofs.program.link_tasks.Given as goal
+use Rattle.machine.specs.Systems.{threads_from}
 
 -- the tasks among the units that are left are still to be linked
 abbrev pub invariant-units : goal.invariant-units

@@ -1,6 +1,5 @@
 use Rattle.std.proofs.Common.{◌∷◌, ◌++◌, map, subst, ◌+◌}
 use Rattle.seq_tree.specs.Trees.{block_of}
-use Rattle.linker.specs.Callees.{threads_from}
 use Rattle.linker.specs.Parts.{PartsLeft}
 use Rattle.linker.specs.Programs.{datum_names, param_names, task_part}
 use Rattle.linker.specs.Standing.{lists_of}
@@ -8,6 +7,7 @@ use Rattle.linker.specs.declared.code.Ins.TheVariants as ins
 use Rattle.linker.proofs.Parting.{parts_on}
 use Rattle.linker.proofs.Units.{as_cyclic, as_passive, as_shared, as_sporadic}
 use Rattle.linker.proofs.program.link_unit.Goals as goal
+use Rattle.machine.specs.Systems.{threads_from}
 
 pub returns-in-Passive : goal.returns-in-Passive
 returns-in-Passive g c = λ from whole durations i us h.

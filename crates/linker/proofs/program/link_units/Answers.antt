@@ -2,7 +2,7 @@ use Rattle.std.proofs.Common.{[], map, sym, subst}
 use Rattle.ada_tree.specs.Trees.{unit_of}
 use Rattle.seq_tree.specs.Names.{Name}
 use Rattle.linked.proofs.Shared.Growths.{grows_twice}
-use Rattle.linker.specs.Callees.{body_of, lead_by, threads_from}
+use Rattle.linker.specs.Callees.{body_of, lead_by}
 use Rattle.linker.specs.Leads.{Leads}
 use Rattle.linker.specs.Parts.{EndStands}
 use Rattle.linker.specs.Programs.{AllStand, op_part, task_part}
@@ -11,6 +11,7 @@ use Rattle.linker.specs.declared.code.Ins.TheVariants as ins
 use Rattle.name_sets.specs.Tables.{named}
 use Rattle.linker.proofs.Parting.{keeps_none, nodes_ordered, parts_done}
 use Rattle.linker.proofs.program.link_units.Goals as goal
+use Rattle.machine.specs.Systems.{threads_from}
 
 pub returns : goal.returns
 returns c =

@@ -3,7 +3,7 @@ use Rattle.std.proofs.lemmas.List.{length-map}
 use Rattle.ada_tree.specs.Trees.{program_of, unit_of}
 use Rattle.arrivals_tree.specs.Arriving.{arrivals_of}
 use Rattle.ceil_runtime.specs.Gathering.{AllThreads}
-use Rattle.task_runtime.specs.Libraries.{handed, no_costs, threads_from}
+use Rattle.task_runtime.specs.Libraries.{handed, no_costs, handed_threads}
 use Rattle.ceil_runtime.specs.Starts.{CanStart, opened, system_for}
 use Rattle.task_runtime.specs.Written.{system_of, thread_of}
 use Rattle.arrivals_tree.specs.Arrived.{horizon_limit}
@@ -57,8 +57,8 @@ returns-clause-opens c =
     c.as_slice-2.ensures.value
     ∙ opened-all (program_of c.args.program.now) (arrivals_of c.args.arrivals.now) c.requires _ _ (ap (map unit_of) c.as_slice-units.ensures.value)
     (ap (map thread_of) c.as_slice.ensures.value ∙ c.in_ok-threads.ensures.all ∙ ap
-    (λ ws. threads_from ws 0 (map unit_of c.as_slice-units.result.now)) c.as_slice-work.ensures.value ∙ ap
-    (λ us. threads_from c.args.arrivals.now.work.items 0 (map unit_of us)) c.as_slice-units.ensures.value)
+    (λ ws. handed_threads ws 0 (map unit_of c.as_slice-units.result.now)) c.as_slice-work.ensures.value ∙ ap
+    (λ us. handed_threads c.args.arrivals.now.work.items 0 (map unit_of us)) c.as_slice-units.ensures.value)
 
 pub open-requires-clause-alike : goal.open-requires-clause-alike
 open-requires-clause-alike c =
@@ -71,8 +71,8 @@ open-requires-clause-excludes c =
     let a = arrivals_of c.args.arrivals.now in
     let same = opened-all p a c.requires _ _ (ap (map unit_of) c.as_slice-units.ensures.value)
     (ap (map thread_of) c.as_slice.ensures.value ∙ c.in_ok-threads.ensures.all ∙ ap
-    (λ ws. threads_from ws 0 (map unit_of c.as_slice-units.result.now)) c.as_slice-work.ensures.value ∙ ap
-    (λ us. threads_from c.args.arrivals.now.work.items 0 (map unit_of us)) c.as_slice-units.ensures.value) in
+    (λ ws. handed_threads ws 0 (map unit_of c.as_slice-units.result.now)) c.as_slice-work.ensures.value ∙ ap
+    (λ us. handed_threads c.args.arrivals.now.work.items 0 (map unit_of us)) c.as_slice-units.ensures.value) in
     subst (λ as'. MayExclude (system_for c.args.arrivals.now.until c.args.program.now.costs c.as_slice-units.result.now c.as_slice.result.now) as')
     (sym c.as_slice-2.ensures.value)
     (subst (λ y. MayExclude y a.items) (sym (ap (λ r. r.system) same)) (may-exclude p c.requires.meets horizon_limit a c.requires.accepted))

@@ -5,7 +5,6 @@ use Rattle.std.specs.Prelude.{None, false, map, slice_get}
 use Rattle.seq_tree.specs.Variables.{Variables}
 use Rattle.ada_tree.specs.Trees.{unit_of}
 use Rattle.machine.specs.Meanings.{Running}
-use Rattle.task_runtime.specs.Libraries.{objects_from}
 use Rattle.ceil_runtime.specs.Processing.{state_by, system_by}
 use Rattle.ceil_runtime.specs.declared.processor.Phase.TheVariants.{Effects}
 use Rattle.ceil_runtime.proofs.ObjectsFound.{found-stores}
@@ -19,6 +18,7 @@ use Rattle.ceil_runtime.proofs.Linked.{linked-here, start-at, start-known}
 use Rattle.ceil_runtime.proofs.ObjectsKept.{opened-objects}
 use Rattle.ceil_runtime.proofs.Started.{open-alike, open-free, open-next, open-none, open-reached, open-running, open-sound, slept-size}
 use Rattle.ceil_runtime.proofs.processor.Machine.open.Goals as goal
+use Rattle.machine.specs.Systems.{objects_from}
 
 pub threads-init : goal.threads-init
 threads-init c =

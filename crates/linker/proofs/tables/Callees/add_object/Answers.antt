@@ -1,7 +1,7 @@
 use Rattle.std.proofs.Common.{[], ◌∷◌, map, subst, ◌+◌, sym}
 use Rattle.seq_tree.specs.Trees.{operation_of}
-use Rattle.machine.specs.Systems.{op_named, protected_by}
-use Rattle.linker.specs.Callees.{AreEntered, body_of, objects_from, target_among}
+use Rattle.machine.specs.Systems.{op_named, protected_by, objects_from}
+use Rattle.linker.specs.Callees.{AreEntered, body_of, target_among}
 use Rattle.linker.proofs.Entering.{protected_led}
 use Rattle.linker.proofs.Units.{as_shared, object_here, object_of}
 use Rattle.linker.proofs.tables.Callees.add_object.Goals as goal

@@ -1,7 +1,7 @@
 use Rattle.std.proofs.Common.{ℕ, [], length, map}
 use Rattle.ada_tree.specs.Trees.{unit_of}
-use Rattle.machine.specs.Systems.{System}
-use Rattle.linker.specs.Callees.{AreEntered, IsSystemOf, body_of, objects_from, target_among}
+use Rattle.machine.specs.Systems.{System, objects_from}
+use Rattle.linker.specs.Callees.{AreEntered, IsSystemOf, body_of, target_among}
 use Rattle.linker.proofs.tables.Callees.add_objects.Given as goal
 
 -- protected objects of other names are among the units that are left

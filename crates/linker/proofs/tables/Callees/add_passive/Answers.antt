@@ -1,8 +1,8 @@
 use Rattle.std.proofs.Common.{◌∷◌, suc, map, subst}
 use Rattle.std.proofs.lemmas.Result.{on_ok_weaker}
 use Rattle.seq_tree.specs.Trees.{operation_of}
-use Rattle.machine.specs.Systems.{op_named, plain_by}
-use Rattle.linker.specs.Callees.{AreEntered, body_of, libraries_from, target_among}
+use Rattle.machine.specs.Systems.{op_named, plain_by, libraries_from}
+use Rattle.linker.specs.Callees.{AreEntered, body_of, target_among}
 use Rattle.linker.proofs.Entering.{plain_led}
 use Rattle.linker.proofs.Units.{as_cyclic, as_passive, as_shared, as_sporadic, library_here}
 use Rattle.linker.proofs.tables.Callees.add_passive.Goals as goal

@@ -1,8 +1,9 @@
 use Rattle.std.proofs.Common.{◌≡◌, rules, [], ◌∷◌, map, ap, subst, ◌+◌}
 use Rattle.ada_tree.specs.Trees.{unit_of}
-use Rattle.linker.specs.Callees.{AreEntered, body_of, libraries_from, target_among}
+use Rattle.linker.specs.Callees.{AreEntered, body_of, target_among}
 use Rattle.linker.proofs.LinkSteps.{empty_of}
 use Rattle.linker.proofs.tables.Callees.add_passives.Goals as goal
+use Rattle.machine.specs.Systems.{libraries_from}
 
 pub units-init : goal.units-init
 units-init c = λ y is h. (

@@ -3,9 +3,10 @@ use Rattle.std.specs.Prelude.{if◌then◌else◌}
 use Rattle.seq_tree.specs.Names.{same_name}
 use Rattle.seq_tree.specs.Trees.{block_of, signature_of}
 use Rattle.machine.specs.Systems as to
-use Rattle.linker.specs.Callees.{AreEntered, body_of, target_among, threads_from}
+use Rattle.linker.specs.Callees.{AreEntered, body_of, target_among}
 use Rattle.linker.proofs.Units.{as_cyclic, as_sporadic, cyclic_here, request_led, sporadic_here}
 use Rattle.linker.proofs.tables.Callees.add_task.Goals as goal
+use Rattle.machine.specs.Systems.{threads_from}
 
 pub returns-in_ok-enter-in-Cyclic : goal.returns-in_ok-enter-in-Cyclic
 returns-in_ok-enter-in-Cyclic c = λ y durations us i h.

@@ -1,8 +1,9 @@
 use Rattle.std.proofs.Common.{◌≡◌, rules, [], ◌∷◌, map, ap, subst, ◌+◌}
 use Rattle.ada_tree.specs.Trees.{unit_of}
-use Rattle.linker.specs.Callees.{AreEntered, body_of, target_among, threads_from}
+use Rattle.linker.specs.Callees.{AreEntered, body_of, target_among}
 use Rattle.linker.proofs.LinkSteps.{empty_of}
 use Rattle.linker.proofs.tables.Callees.add_tasks.Goals as goal
+use Rattle.machine.specs.Systems.{threads_from}
 
 pub units-init : goal.units-init
 units-init c = λ y is h.

@@ -18,6 +18,7 @@ pub mod KeySteps
 pub mod LoopEnds
 pub mod LoopSteps
 pub mod NamePlaces
+pub mod ObjectFits
 pub mod ObjectRings
 pub mod OnceCalls
 pub mod PlaceSteps
@@ -25,7 +26,7 @@ pub mod PriceLaws
 pub mod RankSteps
 pub mod RequestLaws
 pub mod RisingLaws
-pub mod ServedSteps
+pub mod ServedLaws
 pub mod SizeSteps
 pub mod SourceLaws
 pub mod SpacingLaws

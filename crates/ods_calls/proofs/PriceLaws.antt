@@ -1,7 +1,7 @@
--- Costs of calls by what they mean: prices by the places of these are those of the flat design.
-use Rattle.std.proofs.Common.{◌≡◌, ℕ, zero, suc, ◌+◌, ◌*◌, List, [], ◌∷◌, Option, length, map, min, refl, ap, sym, ◌∙◌}
-use Rattle.std.proofs.lemmas.List.{length-map}
+-- Costs of calls by what they mean: prices by the places of operations that are like those of the flat design are what its calls cost.
+use Rattle.std.proofs.Common.{◌≡◌, ℕ, zero, suc, ◌+◌, ◌*◌, List, [], ◌∷◌, Option, Some, None, option_map, length, map, min, refl, ap, sym, ◌∙◌, arith}
 use Rattle.seq_tree.specs.Names.{Name}
+use Rattle.seq_tree.specs.Operations.{Operation}
 use Rattle.seq_tree.specs.Statements.{Statement, Statements, Branches, Null, Assign, If, For, ExitWhen, Call, Work, Put, End, Then}
 use Rattle.seq_tree.specs.Statements.{Nothing, Else, When}
 use Rattle.seq_tree.specs.Dearest.{Weights, dearest, dearest_statement, dearest_branch, turn_count, cost}
@@ -10,14 +10,18 @@ use Rattle.seq_tree.specs.declared.tree.OpName.{OpName}
 use Rattle.ods_tree.specs.Designs.{Design}
 use Rattle.ods_tree.specs.Links.{renamed, renamed_statement, renamed_branches, resolve, resolved}
 use Rattle.ods_tree.specs.Flattening.{flat}
-use Rattle.call_graph.specs.Entries.{Entry, entries, entry_at}
-use Rattle.call_graph.specs.Entries as works
+use Rattle.ods_tree.specs.Services.{Service, Sort, flat_services, service_named}
+use Rattle.ods_tree.specs.Services as sort
+use Rattle.analysis.specs.Execution.{body_cost_by, cost_within, service_cost}
 use Rattle.name_sets.specs.FirstPlaces.{op_place_from}
-use Rattle.call_graph.specs.Places.{known_by}
-use Rattle.call_graph.specs.Prices.{cap, deeper_prices, price, prices}
-use Rattle.call_graph.specs.declared.services.Served.{Served}
-use Rattle.call_graph.proofs.Shared.PriceLaws.{block-priced}
-use Rattle.ods_calls.specs.Costed.{ArePrices, meant_place, meant_work, served_as}
+use Rattle.call_graph.specs.Entries.{Entry, entry_by, entry_of}
+use Rattle.call_graph.specs.Entries as works
+use Rattle.call_graph.specs.Places.{known_by, value_at}
+use Rattle.call_graph.specs.Prices.{cap, price, prices}
+use Rattle.call_graph.proofs.Shared.PlaceLaws.{along, along-made, along-none, entry_named, or_none, placed}
+use Rattle.call_graph.proofs.Shared.PriceLaws.{cut-block}
+use Rattle.ods_calls.specs.Costed.{ArePrices, meant_place, meant_work}
+use Rattle.ods_calls.proofs.ServedLaws.{AreAlike}
 
 -- calls by what they mean
 module _ (means : OpName → OpName) (costs : Costs) (work : ℕ → ℕ) (f : Name → Name → ℕ) where
@@ -61,35 +65,51 @@ module _ (x : Design) (place : OpName → Option ℕ) where
   meant-price numbers (works.Protected b) = ap (min cap) (meant-cost numbers b)
   meant-price numbers works.Asked = refl
 
-  meant-deeper : (numbers : List ℕ) (ss : List Served) → deeper_prices x.costs (known_by (meant_place x place) numbers) (map entry_at ss)
-      ≡ deeper_prices x.costs (known_by place numbers) (map (served_as x) ss)
-  meant-deeper numbers [] = refl
-  meant-deeper numbers (s ∷ ss) =
-      ap (λ n. n ∷ deeper_prices x.costs (known_by (meant_place x place) numbers) (map entry_at ss)) (meant-price numbers (entry_at s).work)
-      ∙ ap (λ ns. price x.costs (known_by place numbers) (served_as x s).work ∷ ns) (meant-deeper numbers ss)
+-- prices by the places of operations that are like those of the flat design are the costs of their calls, cut
+module _ (x : Design) (es : List Entry) (alike : AreAlike x es (flat_services (flat x))) (place : OpName → Option ℕ)
+    (places : (n : OpName) → place n ≡ op_place_from 0 (map (λ e. e.name) es) n) where
+  abbrev ss : List Service
+  ss = flat_services (flat x)
 
-  meant-prices : (depth : ℕ) (ss : List Served) → prices depth x.costs (meant_place x place) (map entry_at ss)
-      ≡ prices depth x.costs place (map (served_as x) ss)
-  meant-prices zero ss = refl
-  meant-prices (suc depth) ss =
-      meant-deeper (prices depth x.costs (meant_place x place) (map entry_at ss)) ss
-      ∙ ap (λ ns. deeper_prices x.costs (known_by place ns) (map (served_as x) ss)) (meant-prices depth ss)
+  abbrev made : ℕ → List ℕ
+  made d = prices d x.costs (meant_place x place) es
 
-  -- names stay as they are
-  meant-names : (ss : List Served) → map (λ e. e.name) (map entry_at ss) ≡ map (λ e. e.name) (map (served_as x) ss)
-  meant-names [] = refl
-  meant-names (s ∷ ss) = ap (λ ns. (entry_at s).name ∷ ns) (meant-names ss)
+  abbrev called : ℕ → Name → Name → ℕ
+  called d = known_by place (made d)
+
+  by-name : (numbers : List ℕ) (n : OpName) → value_at numbers (place n) ≡ along es numbers n
+  by-name numbers n = ap (value_at numbers) (places n) ∙ placed 0 es numbers numbers n refl
+
+  priced : (d : ℕ) (n : OpName) → value_at (made d) (place n) ≡ min cap (cost_within d x.costs ss n.object n.op)
+  priced zero n = by-name [] n ∙ along-none es n ∙ omega arith
+  priced (suc d) n =
+      let paid : Entry → ℕ = λ e. price x.costs (known_by (meant_place x place) (made d)) e.work in
+      by-name (map paid es) n ∙ along-made paid es n ∙ meant (entry_named es n) ∙ ap worth (alike.found n)
+      ∙ costs (priced d) (service_named ss n.object n.op)
+    where
+      worth : Option works.Work → ℕ
+      worth None = 0
+      worth (Some w) = price x.costs (called d) w
+
+      meant : (o : Option Entry) → or_none (λ e. price x.costs (known_by (meant_place x place) (made d)) e.work) o
+          ≡ worth (option_map (λ e. meant_work x e.work) o)
+      meant None = refl
+      meant (Some e) = meant-price x place (made d) e.work
+
+      sorted : ((m : OpName) → value_at (made d) (place m) ≡ min cap (cost_within d x.costs ss m.object m.op)) → (object : Name) (s : Sort)
+          (p : Operation) → price x.costs (called d) (entry_by object s p).work ≡ min cap (body_cost_by x.costs (cost_within d x.costs ss) s p)
+      sorted same object sort.Plain p = cut-block x.costs (called d) (cost_within d x.costs ss) p.block same
+      sorted same object sort.Protected p = cut-block x.costs (called d) (cost_within d x.costs ss) p.block same
+      sorted same object sort.Request p = refl
+
+      costs : ((m : OpName) → value_at (made d) (place m) ≡ min cap (cost_within d x.costs ss m.object m.op)) → (o : Option Service)
+          → worth (option_map (λ s. (entry_of s).work) o) ≡ min cap (service_cost x.costs (cost_within d x.costs ss) o)
+      costs same None = omega arith
+      costs same (Some s) = sorted same s.object s.sort s.op
 
   -- the prices of all operations that may be called are what calls count
-  pub prices-are : (ss : List Served) (numbers : List ℕ) → map (served_as x) ss ≡ entries (flat x)
-      → ((n : OpName) → place n ≡ op_place_from 0 (map (λ e. e.name) (map entry_at ss)) n)
-      → numbers ≡ prices (length ss) x.costs (meant_place x place) (map entry_at ss) → ArePrices x place numbers
-  prices-are ss numbers all places is b =
-      let es = entries (flat x) in
-      let placed : (n : OpName) → place n ≡ op_place_from 0 (map (λ e. e.name) es) n =
-      λ n. places n ∙ ap (λ ns. op_place_from 0 ns n) (meant-names ss ∙ ap (map (λ (e : Entry). e.name)) all) in
-      let many : length ss ≡ length es = sym (length-map ss (served_as x)) ∙ ap (λ (cs : List Entry). length cs) all in
-      let same : numbers ≡ prices (length es) x.costs place es = is ∙ meant-prices (length ss) ss
-      ∙ ap (prices (length ss) x.costs place) all ∙ ap (λ n. prices n x.costs place es) many in
-      ap (min cap) (meant-cost numbers b ∙ ap (λ ns. cost x.costs (known_by place ns) (resolved x b)) same)
-      ∙ block-priced (flat x) place placed (resolved x b)
+  pub prices-are : (numbers : List ℕ) → numbers ≡ made (length es) → ArePrices x place numbers
+  prices-are numbers is b =
+      let many : numbers ≡ made (length ss) = is ∙ ap made alike.long in
+      ap (min cap) (meant-cost x place numbers b ∙ ap (λ ns. cost x.costs (known_by place ns) (resolved x b)) many)
+      ∙ cut-block x.costs (called (length ss)) (cost_within (length ss) x.costs ss) (resolved x b) (priced (length ss))

@@ -1,46 +1,31 @@
--- What the costs of a design are worked out from: the operations that may be called, with their calls by what they mean.
--- They go in the order of the flat design.
-use Rattle.std.specs.Prelude.{◌++◌, flat_map, ◌≡◌, ℕ, Bool, ◌&&◌, false, List, [], Option, option_map}
+-- What the costs of a design are worked out from: the operations that may be called, by the bodies of its graph of calls.
+-- Those of passive objects stand first, then those of protected objects, then the requests of threads.
+use Rattle.std.specs.Prelude.{◌++◌, flat_map, ◌≡◌, ℕ, ◌&&◌, List, [], Option, Some, None, option_map}
 use Rattle.std.specs.Prelude.{option_and_then, option_to_list, min, map, filter, filter_map, if◌then◌else◌}
-use Rattle.seq_tree.specs.Names.{Name}
 use Rattle.seq_tree.specs.Statements.{Statements}
 use Rattle.seq_tree.specs.Dearest.{cost}
 use Rattle.seq_tree.specs.declared.tree.OpName.{OpName}
 use Rattle.seq_tree.specs.Operations.{Signature}
-use Rattle.call_graph.specs.Entries.{Work, Entry, entry_at}
+use Rattle.call_graph.specs.Entries.{Work, Entry}
 use Rattle.call_graph.specs.Entries as works
 use Rattle.call_graph.specs.Places.{known_by}
 use Rattle.call_graph.specs.Prices.{cap}
-use Rattle.call_graph.specs.declared.services.Served.{Served}
-use Rattle.ods_tree.specs.Designs.{Provided, Body, Object, Design}
-use Rattle.ods_tree.specs.Walk.{Standing, is_terminal}
+use Rattle.ods_tree.specs.Designs.{Body, Object, Design}
+use Rattle.ods_tree.specs.Walk.{Standing, is_terminal, objects}
 use Rattle.ods_tree.specs.declared.design.Kind.{Kind}
+use Rattle.ods_tree.specs.declared.design.Kind.TheVariants as kind
 use Rattle.design_rules.specs.Lookups.{has_thread, is_sporadic}
 use Rattle.design_rules.specs.Broken.{Broken}
 use Rattle.design_rules.specs.Budgets.{body_cost, dear_body, dear_thread, over_budget}
-use Rattle.ods_calls.specs.declared.services.Part.{Part}
-use Rattle.ods_calls.specs.declared.services.Part.TheVariants.{Plain, Guarded, Requests}
 use Rattle.ods_tree.specs.Links.{resolve, resolved}
-use Rattle.ods_tree.specs.Flattening.{body_named, is_passive, is_protected, request_op}
-
--- what an operation of a part runs, by its block
-abbrev pub work_in : Part → Statements → Work
-work_in Plain b = works.Plain b
-work_in Guarded b = works.Protected b
-work_in Requests b = works.Asked
+use Rattle.ods_tree.specs.Flattening.{request_op}
+use Rattle.ods_index.specs.Calling.{Calls, design_calls}
 
 -- what an operation runs, its calls by what they mean
 abbrev pub meant_work : Design → Work → Work
 meant_work x (works.Plain b) = works.Plain (resolved x b)
 meant_work x (works.Protected b) = works.Protected (resolved x b)
 meant_work x works.Asked = works.Asked
-
-abbrev pub meant_entry : Design → Entry → Entry
-meant_entry x e = record { name = e.name; work = meant_work x e.work }
-
--- one that the code keeps
-abbrev pub served_as : Design → Served → Entry
-served_as x s = meant_entry x (entry_at s)
 
 -- the place of what a call means
 abbrev pub meant_place : Design → (OpName → Option ℕ) → OpName → Option ℕ
@@ -50,15 +35,15 @@ meant_place x place n = place (resolve x n)
 abbrev pub ArePrices : Design → (OpName → Option ℕ) → List ℕ → Type 0
 ArePrices x place prices = (b : Statements) → min cap (cost x.costs (known_by (meant_place x place) prices) b) ≡ min cap (body_cost x b)
 
--- the operations of these that an object provides, by their blocks
-abbrev pub served_ops : Design → Part → Name → (Name → Option Statements) → List Provided → List Entry
-served_ops x part object block ps =
-    filter_map (λ p. option_map (λ b. meant_entry x (record { name = record { object = object; op = p.sig.name }; work = work_in part b }))
-    (block p.sig.name)) ps
+-- what a call of an operation runs by its body, where its object is of the first kind and that is passive or protected
+abbrev pub body_work : Kind → Kind → Statements → Option Work
+body_work kind.Passive kind.Passive b = Some (works.Plain b)
+body_work kind.Protected kind.Protected b = Some (works.Protected b)
+body_work _ _ b = None
 
--- the block of an operation of an object
-abbrev pub block_in : Object → Name → Option Statements
-block_in o op = option_map (λ b. b.block) (body_named op o.bodies)
+-- such an operation
+abbrev pub body_entry : Kind → Calls → Option Entry
+body_entry own c = option_map (λ w. record { name = c.name; work = w }) (body_work own c.kind c.block)
 
 -- the request of an object with a thread, where it provides an operation
 abbrev pub request_in : Object → List Entry
@@ -67,25 +52,15 @@ request_in o =
     (λ (sig : Signature). option_map (λ b. record { name = record { object = o.name; op = sig.name }; work = works.Asked }) o.thread)
     (request_op o.provides))
 
--- whether an object of a kind gives its operations to a part
-abbrev pub gives_operations : Part → Kind → Bool
-gives_operations Plain kind = is_passive kind
-gives_operations Guarded kind = is_protected kind
-gives_operations Requests kind = false
+-- that of a sporadic object without children
+abbrev pub request_served : Standing → List Entry
+request_served s = if is_terminal s && is_sporadic s.own.kind then request_in s.own else []
 
--- whether an object of a kind gives its request to a part
-abbrev pub gives_request : Part → Kind → Bool
-gives_request Plain kind = false
-gives_request Guarded kind = false
-gives_request Requests kind = is_sporadic kind
-
--- what an object gives to a part
-abbrev pub served_part : Design → Part → Standing → List Entry
-served_part x part s =
-    if is_terminal s
-    then (if gives_operations part s.own.kind then served_ops x part s.own.name (block_in s.own) s.own.provides
-    else if gives_request part s.own.kind then request_in s.own else [])
-    else []
+-- the operations of a design that may be called
+abbrev pub services_in : Design → List Entry
+services_in x =
+    filter_map (body_entry kind.Passive) (design_calls x)
+    ++ (filter_map (body_entry kind.Protected) (design_calls x) ++ flat_map request_served (objects x))
 
 -- the threads over their budgets among those of an object
 abbrev pub over_budgets : Design → Standing → List Broken

@@ -7,7 +7,9 @@ ghost use Rattle.ods_tree.specs.Links.{resolve};
 ghost use Rattle.ods_tree.specs.Trees.{design_of};
 ghost use Rattle.call_graph.specs.Prices.{cap};
 ghost use Rattle.design_rules.specs.Budgets.{body_cost};
+ghost use Rattle.design_rules.specs.Rules.{Budget};
 ghost use Rattle.ods_index.specs.Indexing.{IsIndex};
+ghost use Rattle.ods_index.specs.Judging.{PassesBefore};
 ghost use Rattle.ods_calls.specs.Costed.{ArePrices, meant_place};
 
 use crate::services::services_of;
@@ -47,13 +49,14 @@ pub struct Priced<'k, 'a> {
 impl<'k, 'a> Priced<'k, 'a> {
     ghost use Rattle.ods_calls.specs.Pricing.{priced_design};
 
-    /// Works out what the calls of a design count. The time grows as its bodies do, unless there is a ring of calls. `NoMemory` comes for want
-    /// of memory alone.
+    /// Works out what the calls of a design count, where no rule before V14 is broken. The time grows as its bodies do. `NoMemory` comes for
+    /// want of memory alone.
     pub fn new(alloc: Global, index: &'k Index<'a>) -> Result<Priced<'k, 'a>, NoMemory>
-        requires { IsIndex index.now }
+        requires indexed { IsIndex index.now }
+        requires before { PassesBefore (design_of index.now.design.now) Budget }
         ensures { IfOk result (λ p. priced_design p ≡ design_of index.entry.now.design.now) }
     {
-        let services = services_of(alloc, index.objects.as_slice())?;
+        let services = services_of(alloc, index)?;
         let places = places_of(alloc, services.as_slice())?;
         let links = &index.links;
         let meant = Meant {

@@ -67,7 +67,7 @@ held-of-objects x (s ∷ ss) =
     by false e = e
 
 -- one that is held is a body of a terminal protected object
-held-from : (x : Design) (h : Calls) → In h (held_bodies x) → (s : Standing) × In s (filter (λ (s : Standing). is_protected s.own.kind) (terminals x))
+pub held-from : (x : Design) (h : Calls) → In h (held_bodies x) → (s : Standing) × In s (filter (λ (s : Standing). is_protected s.own.kind) (terminals x))
     × (b : Body) × In b s.own.bodies × (body_calls x s.own.kind s.own.name s.own.needs b ≡ h)
 held-from x h at =
     let P : List Calls → Type 0 = λ hs. In h hs in

@@ -23,14 +23,13 @@ pub mod ObjectRings
 pub mod OnceCalls
 pub mod PlaceSteps
 pub mod PriceLaws
-pub mod RankSteps
 pub mod RequestLaws
-pub mod RisingLaws
 pub mod ServedLaws
 pub mod SizeSteps
 pub mod SourceLaws
 pub mod SpacingLaws
+pub mod SpotSteps
 pub mod SpreadLaws
-pub mod StartRings
-pub mod StartSteps
+pub mod StartGraph
+pub mod StartPaths
 pub mod TargetSteps

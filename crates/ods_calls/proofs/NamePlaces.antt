@@ -14,7 +14,7 @@ use Rattle.name_sets.specs.FirstPlaces.{place_where, op_place_from, place_from}
 use Rattle.ods_calls.proofs.Items.{In, in-map}
 
 -- what stands in a list and passes a test has a first place
-in-placed : {A : Type 0} (test : A → Bool) (k : ℕ) (xs : List A) (x : A) → In x xs → test x ≡ true → (p : ℕ) × (place_where test k xs ≡ Some p)
+pub in-placed : {A : Type 0} (test : A → Bool) (k : ℕ) (xs : List A) (x : A) → In x xs → test x ≡ true → (p : ℕ) × (place_where test k xs ≡ Some p)
 in-placed test k [] x h passes = absurd h
 in-placed test k (y ∷ xs) x h passes = by (λ j. in-placed test (suc k) xs x j passes) (test y) refl h
   where

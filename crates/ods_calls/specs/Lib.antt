@@ -4,12 +4,12 @@ pub mod Guarded
 pub mod Held
 pub mod Keys
 pub mod Pricing
-pub mod Ranked
 pub mod Reaching
 pub mod Requested
 pub mod Requesters
 pub mod Singles
 pub mod Sourced
 pub mod Spacings
+pub mod Spotted
 pub mod Spreading
 pub mod Starting

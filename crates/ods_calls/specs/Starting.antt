@@ -1,26 +1,74 @@
--- The graph of starts between threads, by their places: an edge to each sporadic thread of which a thread calls an operation, itself or
--- through protected operations. Places count from 0 in flattened order; of threads of one name the first counts.
-use Rattle.std.specs.Prelude.{ℕ, ◌==◌, Bool, false, ◌&&◌, List, Option, Some, None, if◌then◌else◌, is_some}
-use Rattle.std.specs.List.{list_any}
-use Rattle.seq_tree.specs.Names.{Name}
-use Rattle.name_sets.specs.Places.{place_in}
+-- The graph of starts, by places: threads, and the protected operations through which they start each other.
+-- A thread that is sporadic and a protected operation lead to what they call: to its operation, and to the thread of its object.
+use Rattle.std.specs.Prelude.{ℕ, Bool, false, List, ◌++◌, map, flat_map, length, Option, None, if◌then◌else◌}
+use Rattle.seq_tree.specs.Calls.{same_op}
+use Rattle.seq_tree.specs.Names.{Name, same_name}
+use Rattle.seq_tree.specs.declared.tree.OpName.{OpName}
 use Rattle.ods_tree.specs.Designs.{Object, Design}
-use Rattle.design_rules.specs.Rings.{thread_calls}
-use Rattle.ods_calls.specs.declared.start_rings.ThreadPlaces.{ThreadPlaces}
+use Rattle.name_sets.specs.FirstPlaces.{place_where}
+use Rattle.design_rules.specs.Rings.{thread_objects}
+use Rattle.ods_index.specs.Calling.{Calls, design_calls}
+use Rattle.ods_calls.specs.Graphed.{body_edges, edges_from}
+use Rattle.ods_calls.specs.Held.{held_bodies, is_held}
+use Rattle.ods_calls.specs.Keys.{has_target}
+use Rattle.ods_calls.specs.Spreading.{direct_calls}
+use Rattle.ods_calls.specs.declared.spots.Part.{Part}
+use Rattle.ods_calls.specs.declared.spots.Part.TheVariants.{Threads, Operations}
+use Rattle.rings.specs.Graphs.{is_step}
 
--- the place that is kept for a name, where a sporadic thread has it
-abbrev pub target_in : ThreadPlaces → Name → Option ℕ
-target_in t n = if is_some (place_in t.sporadic n) then place_in t.places n else None
+-- what stands at a place, by its name
+pub data Spot : Type 0 where
+  Thread : Name → Spot
+  Op : OpName → Spot
 
--- whether one of these edges leads from one place to another
-abbrev pub has_edge : List (ℕ × ℕ) → ℕ → ℕ → Bool
-has_edge es p q = list_any (λ e. e.0 == p && e.1 == q) es
+abbrev pub same_spot : Spot → Spot → Bool
+same_spot (Thread m) (Thread n) = same_name m n
+same_spot (Op m) (Op n) = same_op m n
+same_spot (Thread m) (Op n) = false
+same_spot (Op m) (Thread n) = false
 
--- whether a place is this one
-abbrev pub is_at : Option ℕ → ℕ → Bool
-is_at None p = false
-is_at (Some q) p = q == p
+-- the first place of one among these
+abbrev pub spot_from : ℕ → List Spot → Spot → Option ℕ
+spot_from place all s = place_where (λ t. same_spot t s) place all
 
--- whether an object with a thread stands at one place and can start what stands at another
-abbrev pub starts_at : (Name → Option ℕ) → (Name → Option ℕ) → Design → ℕ → ℕ → Object → Bool
-starts_at place target x p q o = is_at (place o.name) p && list_any (λ c. is_at (target c.object) q) (thread_calls x o)
+-- these threads, and then the operations of these bodies
+abbrev pub spots_among : List Object → List Calls → List Spot
+spots_among os hs = map (λ o. Thread o.name) os ++ map (λ h. Op h.name) hs
+
+-- those of a design
+abbrev pub spots_of : Design → List Spot
+spots_of x = spots_among (thread_objects x) (held_bodies x)
+
+-- to what a call leads
+abbrev pub aimed : Part → OpName → Spot
+aimed Threads k = Thread k.object
+aimed Operations k = Op k
+
+-- the place of a body, where its object is protected
+abbrev pub held_place : (Spot → Option ℕ) → Calls → Option ℕ
+held_place place c = if is_held c then place (Op c.name) else None
+
+-- the edges of bodies to a part of what they call
+abbrev pub held_edges : (Spot → Option ℕ) → Part → List Calls → List (ℕ × ℕ)
+held_edges place part cs = flat_map (body_edges (held_place place) (λ k. place (aimed part k))) cs
+
+-- the place of a thread, where one of its name is sporadic
+abbrev pub source_place : (Spot → Option ℕ) → (Name → Bool) → Object → Option ℕ
+source_place place target o = if target o.name then place (Thread o.name) else None
+
+-- the edges of a thread
+abbrev pub thread_edges : Design → (Spot → Option ℕ) → (Name → Bool) → Object → List (ℕ × ℕ)
+thread_edges x place target o =
+    edges_from (λ k. place (aimed Threads k)) (source_place place target o) (direct_calls x o)
+    ++ edges_from (λ k. place (aimed Operations k)) (source_place place target o) (direct_calls x o)
+
+-- those of bodies, and then those of threads
+abbrev pub start_edges : Design → (Spot → Option ℕ) → (Name → Bool) → List Calls → List Object → List (ℕ × ℕ)
+start_edges x place target cs os =
+    (held_edges place Threads cs ++ held_edges place Operations cs) ++ flat_map (thread_edges x place target) os
+
+-- the steps of a design
+abbrev pub starts_step : Design → ℕ → ℕ → Bool
+starts_step x =
+    is_step (length (spots_of x))
+    (start_edges x (spot_from 0 (spots_of x)) (has_target (thread_objects x)) (design_calls x) (thread_objects x))

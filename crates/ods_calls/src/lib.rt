@@ -15,14 +15,13 @@ mod edges;
 mod keys;
 mod object_rings;
 mod once;
-mod ranks;
 mod reacher;
 mod requests;
-mod rising;
 mod separations;
 mod services;
 mod sizes;
 mod sources;
+mod spots;
 mod start_rings;
 mod starts;
 

@@ -161,7 +161,7 @@ fn rest_of<'a>(alloc: Global, ops: &[Call<'a>], from: usize) -> Result<Vec<Call<
 }
 
 /// Adds what an operation calls, where it wasn't found before.
-#[tactic(auto, using(crate::proofs::Shared::SpreadLaws::spread_laws))]
+#[tactic(auto, using(crate::proofs::SpreadLaws::spread_laws))]
 fn follow<'a>(
     alloc: Global,
     inner: &Inner<'a>,
@@ -180,7 +180,7 @@ fn follow<'a>(
 }
 
 /// Adds what these operations call, where it wasn't found before.
-#[tactic(auto, using(crate::proofs::Shared::SpreadLaws::spread_laws))]
+#[tactic(auto, using(crate::proofs::SpreadLaws::spread_laws))]
 pub(crate) fn follow_all<'a>(
     alloc: Global,
     inner: &Inner<'a>,
@@ -287,7 +287,7 @@ fn names_of<'a>(alloc: Global, ops: &[Call<'a>]) -> Result<Places<'a>, NoMemory>
 }
 
 /// What the thread of an object calls itself.
-#[tactic(auto, using(ods_index::proofs::Shared::WalkSteps::node_steps, crate::proofs::Shared::SpreadLaws::thread_laws))]
+#[tactic(auto, using(ods_index::proofs::Shared::WalkSteps::node_steps, crate::proofs::SpreadLaws::thread_laws))]
 pub(crate) fn thread_starts<'a>(
     alloc: Global,
     links: &Links<'a>,
@@ -305,7 +305,7 @@ pub(crate) fn thread_starts<'a>(
 }
 
 /// Adds what the thread of an object calls itself.
-#[tactic(auto, using(crate::proofs::Shared::LoopEnds::added_laws))]
+#[tactic(auto, using(crate::proofs::LoopEnds::added_laws))]
 fn add_starts<'a>(
     alloc: Global,
     links: &Links<'a>,

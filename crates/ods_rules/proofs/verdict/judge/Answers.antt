@@ -9,6 +9,10 @@ pub first_ringed_op-requires-clause-before : goal.first_ringed_op-requires-claus
 first_ringed_op-requires-clause-before c =
     let P : Rule → Type 0 = λ r. PassesBefore (design_of c.args.index.now.design.now) (rule_of r) in subst P c.in-CallRing.is c.requires.before
 
+pub first_ringed_thread-requires-clause-before : goal.first_ringed_thread-requires-clause-before
+first_ringed_thread-requires-clause-before c =
+    let P : Rule → Type 0 = λ r. PassesBefore (design_of c.args.index.now.design.now) (rule_of r) in subst P c.in-StartRing.is c.requires.before
+
 pub returns-in-CallRing : goal.returns-in-CallRing
 returns-in-CallRing c = rw c.in-CallRing.is c.first_ringed_op.ensures
 

@@ -5,6 +5,6 @@ pub mod Offers
 pub mod Firsts
 pub mod UnitTests
 pub mod FaultsTold
-pub mod Edges
+pub mod Callers
 pub mod Verdicts
-pub mod Places
+pub mod UnitPlaces

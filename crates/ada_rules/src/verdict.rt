@@ -4,6 +4,7 @@ ghost use Rattle.ada_rules.specs.Verdicts.{FirstSays, Says, name_at, site_of};
 ghost use Rattle.ada_rules.specs.declared.verdict.RuleBreak.TheVariants.{NoMemory};
 
 use crate::bodies::first_by_bodies;
+use crate::callers::{Sort, callers_of};
 use crate::externals::first_by_externals;
 use crate::naming::first_by_names;
 use crate::ranges::{first_by_ranges, whole_breaks};
@@ -78,7 +79,8 @@ fn find_broken(alloc: Global, program: &AdaProgram) -> Result<Option<Found>, NoM
         None => {}
         Some(place) => return Ok(broken_at(AdaRule::G2, place)),
     }
-    match first_by_rings(alloc, program)? {
+    let shared = callers_of(alloc, Sort::Shared, program.units.as_slice())?;
+    match first_by_rings(alloc, program, shared.as_slice())? {
         None => {}
         Some(place) => return Ok(broken_at(AdaRule::G3, place)),
     }
@@ -96,7 +98,7 @@ fn find_broken(alloc: Global, program: &AdaProgram) -> Result<Option<Found>, NoM
         None => {}
         Some(place) => return Ok(broken_at(AdaRule::G5, place)),
     }
-    match first_by_externals(alloc, program)? {
+    match first_by_externals(alloc, program, shared.as_slice())? {
         None => {}
         Some(place) => return Ok(broken_at(AdaRule::G6, place)),
     }

@@ -1,3 +1,5 @@
+mod EdgeSteps
+mod EdgeExamples
 mod ListedSteps
 mod WaySteps
 mod SettledPrices

@@ -1,5 +1,6 @@
 -- What other crates may cite of the proofs of this one.
 pub mod DepthLaws
+pub mod EdgeLaws
 pub mod ListedLaws
 pub mod NumberSteps
 pub mod OnceLaws

@@ -1,6 +1,7 @@
 pub mod Branched
 pub mod Listed
 pub mod Once
+pub mod Edges
 pub mod Entries
 pub mod Numbers
 pub mod Places

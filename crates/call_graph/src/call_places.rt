@@ -3,13 +3,12 @@ ghost use Rattle.seq_tree.specs.Calls.{block_calls, same_op};
 ghost use Rattle.seq_tree.specs.Trees.{block_of};
 ghost use Rattle.seq_tree.specs.declared.tree.OpName.{OpName};
 ghost use Rattle.seq_cost.specs.Different.{call_of};
+ghost use Rattle.name_sets.specs.Places.{place_in};
 ghost use Rattle.name_sets.specs.Tables.{at};
 ghost use Rattle.ods_tree.specs.Links.{first_of};
-ghost use Rattle.call_graph.specs.Entries.{entry_at};
 ghost use Rattle.name_sets.specs.FirstPlaces.{op_place_from};
 
-use crate::services::Served;
-use name_sets::OpTable;
+use name_sets::{OpTable, Places};
 use seq_cost::{Call, written_calls};
 use seq_tree::{Block, Name, NoMemory};
 use std::alloc::Global;
@@ -35,29 +34,40 @@ impl CallPlaces for OpTable<'_, usize> {
     }
 }
 
+/// Calls by the names of their objects.
+impl CallPlaces for Places<'_> {
+    ghost places = { λ t k. place_in t k.object };
+
+    fn place(&self, object: &Name, _op: &Name) -> Option<usize>
+        ensures { result ≡ place_in self.now object.now }
+    {
+        self.get(object)
+    }
+}
+
 /// Gives an operation a place, where it has none.
 fn add_place<'a>(
     alloc: Global,
     places: &mut OpTable<'a, usize>,
-    served: &Served<'a>,
+    op: &Call<'a>,
     place: usize,
 ) -> Result<(), NoMemory>
     ensures { OnOk result ((n : OpName) → at places.new n
-        ≡ first_of (at places.old n) (if same_op (entry_at served.entry.now).name n then Some place else None)) }
+        ≡ first_of (at places.old n) (if same_op (call_of op.entry.now) n then Some place else None)) }
 {
-    match places.get(served.object, served.op) {
+    match places.get(op.object, op.op) {
         Some(_) => Ok(()),
-        None => Ok(places.put(alloc, served.object, served.op, place)?),
+        None => Ok(places.put(alloc, op.object, op.op, place)?),
     }
 }
 
 /// The places of operations by their names: of those of one name the first. `NoMemory` comes for want of memory alone.
-pub fn places_of<'a>(alloc: Global, services: &[Served<'a>]) -> Result<OpTable<'a, usize>, NoMemory>
-    ensures { IfOk result (λ t. (n : OpName) → at t n ≡ op_place_from 0 (map (λ e. e.name) (map entry_at services.entry.now)) n) }
+pub fn op_places<'a>(alloc: Global, ops: &[Call<'a>]) -> Result<OpTable<'a, usize>, NoMemory>
+    ensures { IfOk result (λ t. (n : OpName) → at t n ≡ op_place_from 0 (map call_of ops.entry.now) n) }
 {
     let mut places = OpTable::new(alloc);
-    'services: for (place, served) in services.iter().enumerate() {
-        add_place(alloc, &mut places, served, place)?;
+    'ops: for (place, op) in ops.iter().enumerate() {
+        add_place(alloc, &mut places, op, place)?;
     }
     Ok(places)
 }

@@ -9,6 +9,7 @@
 //! Other crates may cite these proofs of it (`proofs/Shared`):
 //!
 //! - `DepthLaws`: lists that are made again and again by one step stay as they are once a step changes nothing.
+//! - `EdgeLaws`: an edge between two places is a call of what stands at one to what stands at the other.
 //! - `ListedLaws`: no call counts more often on a path than it is listed, where it is listed once at most.
 //! - `NumberSteps`: what is left of numbers after a place, and the number there.
 //! - `OnceLaws`: where ways fit all callers, all that leads on to what has a way leads there by one.
@@ -19,6 +20,7 @@
 
 mod call_places;
 mod callees;
+mod edges;
 mod listed;
 mod numbers;
 mod order;
@@ -27,10 +29,11 @@ mod services;
 mod settled;
 mod ways;
 
-pub use call_places::{CallPlaces, places_called, places_of};
+pub use call_places::{CallPlaces, op_places, places_called};
+pub use edges::add_edges;
 pub use listed::listed_calls;
 pub use numbers::{greatest_of, same, value};
 pub use prices::{CAP, Prices, prices_of, ticks_of};
-pub use services::{Body, Served};
+pub use services::{Body, Served, places_of};
 pub use settled::Settled;
 pub use ways::{Caller, Ways, ways_of};

@@ -1,6 +1,6 @@
 -- What runs on the processor: the tasks, protected objects and passive units of a program, each with its place among the units.
 -- Priorities and ceilings are those of ISO/IEC 8652:2012, D.1 and D.3.
-use Rattle.std.specs.Prelude.{ℕ, Bool, List, Option, Some, None, filter_map, if◌then◌else◌}
+use Rattle.std.specs.Prelude.{ℕ, Bool, List, [], Option, Some, None, filter_map, if◌then◌else◌}
 use Rattle.std.specs.List.{enumerate_from}
 use Rattle.seq_tree.specs.Names.{Name, same_name}
 use Rattle.seq_tree.specs.Statements.{Statements}

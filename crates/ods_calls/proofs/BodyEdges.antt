@@ -1,15 +1,17 @@
 -- The edges between places are the calls of bodies, and bodies are those of the objects of a design.
-use Rattle.std.proofs.Common.{◌≡◌, ℕ, ◌==◌, true, ◌&&◌, List, filter, filter_map, flat_map, Option, Some, None, refl, sym, ap, subst, ◌∙◌}
+use Rattle.std.proofs.Common.{◌≡◌, ℕ, true, ◌&&◌, List, filter, flat_map, Option, Some, sym, subst, ◌∙◌}
 use Rattle.std.specs.List.{list_any}
-use Rattle.std.proofs.lemmas.Bool.{eqb-true, eq-eqb, and_parts, and_from}
+use Rattle.std.proofs.lemmas.Bool.{and_parts, and_from}
 use Rattle.seq_tree.specs.declared.tree.OpName.{OpName}
 use Rattle.ods_tree.specs.Designs.{Body, Object, Design}
 use Rattle.ods_tree.specs.Flattening.{is_protected}
 use Rattle.ods_tree.specs.Walk.{Standing, terminals}
 use Rattle.design_rules.specs.Rings.{protected_objects}
 use Rattle.ods_index.specs.Calling.{Calls, body_calls, design_calls, object_calls}
-use Rattle.ods_calls.specs.Graphed.{body_edges, edges_from, edges_to}
-use Rattle.ods_calls.proofs.Items.{In, any-in, from-filter, from-flat, from-map, from-taken, in-flat, in-map, in-taken, some-in}
+use Rattle.call_graph.specs.Edges.{has_edge, is_at}
+use Rattle.call_graph.proofs.Shared.EdgeLaws.{at-is, edge-between, is-at}
+use Rattle.ods_calls.specs.Graphed.{body_edges}
+use Rattle.ods_calls.proofs.Items.{In, any-in, from-filter, from-flat, from-map, in-flat, in-map, some-in}
 
 module _ (source : Calls → Option ℕ) (target : OpName → Option ℕ) (bodies : List Calls) where
   abbrev edges : List (ℕ × ℕ)
@@ -17,30 +19,21 @@ module _ (source : Calls → Option ℕ) (target : OpName → Option ℕ) (bodie
 
   -- a call of a body is an edge between their places
   pub edge-of : (b : Calls) (k : OpName) (p q : ℕ) → In b bodies → source b ≡ Some p → In k b.meant → target k ≡ Some q
-      → list_any (λ e. e.0 == p && e.1 == q) edges ≡ true
+      → has_edge edges p q ≡ true
   edge-of b k p q held at called there =
-      let edge : In (p, q) (edges_to target p b.meant) =
-      in-map (λ t. (p, t)) q (filter_map target b.meant) (in-taken target k q b.meant called there) in
-      let P : Option ℕ → Type 0 = λ o. In (p, q) (edges_from target o b.meant) in
-      any-in (λ e. e.0 == p && e.1 == q) (p, q) edges (in-flat (body_edges source target) b (p, q) bodies held (subst P (sym at) edge))
-      (and_from _ _ (eq-eqb p p refl) (eq-eqb q q refl))
+      edge-between target p q source (λ (c : Calls). c.meant) bodies
+      ∙ any-in (λ c. is_at (source c) p && list_any (λ o. is_at (target o) q) c.meant) b bodies held
+      (and_from _ _ (at-is (source b) p at) (any-in (λ o. is_at (target o) q) k b.meant called (at-is (target k) q there)))
 
   -- an edge is a call of a body between these places
-  pub call-of : (p q : ℕ) → list_any (λ e. e.0 == p && e.1 == q) edges ≡ true
+  pub call-of : (p q : ℕ) → has_edge edges p q ≡ true
       → (b : Calls) × In b bodies × (source b ≡ Some p) × ((k : OpName) × In k b.meant × (target k ≡ Some q))
   call-of p q h =
-      let e = some-in (λ e. e.0 == p && e.1 == q) edges h in
-      let ends = and_parts (e.0.0 == p) (e.0.1 == q) e.2 in
-      let b = from-flat (body_edges source target) e.0 bodies e.1 in
-      by b.0 b.1 e.0 (eqb-true e.0.0 p ends.0) (eqb-true e.0.1 q ends.1) (source b.0) refl b.2
-    where
-      by : (b : Calls) → In b bodies → (e : ℕ × ℕ) → e.0 ≡ p → e.1 ≡ q → (o : Option ℕ) → source b ≡ o → In e (edges_from target o b.meant)
-          → (c : Calls) × In c bodies × (source c ≡ Some p) × ((k : OpName) × In k c.meant × (target k ≡ Some q))
-      by b h e first second None at i = absurd i
-      by b h e first second (Some from) at i =
-          let t = from-map (λ t. (from, t)) e (filter_map target b.meant) i in
-          let k = from-taken target t.0 b.meant t.1 in
-          (b, h, at ∙ ap Some (ap (λ z. z.0) t.2 ∙ first), (k.0, k.1, k.2 ∙ ap Some (ap (λ z. z.1) t.2 ∙ second)))
+      let b = some-in (λ c. is_at (source c) p && list_any (λ o. is_at (target o) q) c.meant) bodies
+      (sym (edge-between target p q source (λ (c : Calls). c.meant) bodies) ∙ h) in
+      let parts = and_parts (is_at (source b.0) p) (list_any (λ o. is_at (target o) q) b.0.meant) b.2 in
+      let k = some-in (λ o. is_at (target o) q) b.0.meant parts.1 in
+      (b.0, b.1, is-at (source b.0) p parts.0, (k.0, k.1, is-at (target k.0) q k.2))
 
 -- what a body of an object calls, as the bodies of a design have it
 abbrev pub calls-in : Design → Object → Body → Calls

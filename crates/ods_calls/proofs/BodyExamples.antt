@@ -1,58 +1,12 @@
 -- Examples: which bodies are held, what they call, and which threads are targets, and what breaks each of them alone.
-use Rattle.std.specs.Prelude.{◌≡◌, true, false, List, [], ◌∷◌, None, codes, refl}
-use Rattle.seq_tree.specs.Statements.{Statements, Call, End, Then}
-use Rattle.seq_tree.specs.declared.tree.Costs.{Costs}
-use Rattle.seq_tree.specs.declared.tree.OpName.{OpName}
-use Rattle.ods_tree.specs.Designs.{Design, Empty, Node, Object}
-use Rattle.ods_tree.specs.declared.design.AttrKey.TheVariants.{ArrivalJitter}
+use Rattle.std.specs.Prelude.{◌≡◌, true, false, [], ◌∷◌, codes, refl}
+use Rattle.ods_tree.specs.Designs.{Object}
 use Rattle.ods_tree.specs.declared.design.Kind.TheVariants.{Protected, Sporadic, Cyclic}
 use Rattle.ods_calls.specs.Held.{held_bodies, is_held}
 use Rattle.ods_index.specs.Calling.{Calls}
 use Rattle.ods_tree.specs.declared.design.Kind.{Kind}
 use Rattle.ods_calls.specs.Keys.{has_target, is_target}
-
-abbrev put : OpName
-put = record { object = codes "k"; op = codes "put" }
-
-abbrev set : OpName
-set = record { object = codes "q"; op = codes "set" }
-
-abbrev free : Costs
-free = record { assign = 1; test = 1; turn = 1; call = 1; nothing = 1; put = 1; finish = 1 }
-
-abbrev calls_set : Statements
-calls_set = Then (Call (codes "q") (codes "set") []) End
-
--- a protected object whose operation calls q.set, where it requires these operations
-abbrev keeper : List OpName → Object
-keeper needs = record {
-  name = codes "k";
-  kind = Protected;
-  attrs = [];
-  provides = [];
-  needs = needs;
-  vars = [];
-  bodies = record { name = codes "put"; locals = []; block = calls_set } ∷ [];
-  thread = None;
-  links = [];
-}
-
--- a sporadic object that is requested from outside
-abbrev outer : Object
-outer = record {
-  name = codes "q";
-  kind = Sporadic;
-  attrs = record { key = ArrivalJitter; value = 0; unit = None } ∷ [];
-  provides = [];
-  needs = [];
-  vars = [];
-  bodies = [];
-  thread = None;
-  links = [];
-}
-
-abbrev small : Object → Design
-small o = record { name = codes "d"; version = None; costs = free; root = Node o Empty }
+use Rattle.ods_calls.proofs.SmallParts.{calls_set, keeper, outer, put, set, small}
 
 -- the body of its operation in an object of this kind
 abbrev body_in : Kind → Calls

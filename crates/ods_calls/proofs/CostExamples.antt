@@ -1,12 +1,12 @@
 -- What the definitions of costs and calls hold of, and what breaks each alone.
-use Rattle.std.proofs.Common.{◌≡◌, ℕ, true, false, [], ◌∷◌, Option, Some, None, map, min, refl, arith}
+use Rattle.std.proofs.Common.{◌≡◌, ℕ, [], ◌∷◌, Option, Some, None, map, min, refl, arith}
 use Rattle.std.specs.Prelude.{codes, filter_map}
 use Rattle.seq_tree.specs.Dearest.{cost}
 use Rattle.seq_tree.specs.Statements.{Work}
 use Rattle.seq_tree.specs.declared.tree.OpName.{OpName}
 use Rattle.ods_tree.specs.Designs.{Node, Object, Tree}
 use Rattle.ods_tree.specs.Flattening.{flat}
-use Rattle.ods_tree.specs.Walk.{Standing, objects, own_of}
+use Rattle.ods_tree.specs.Walk.{objects, own_of}
 use Rattle.ods_tree.specs.declared.design.Kind.TheVariants as kind
 use Rattle.ods_tree.proofs.Shared.Short.{block, call, pas, trees, design}
 use Rattle.design_rules.specs.Broken.{V14, V15Cost}

@@ -1,29 +1,17 @@
 -- What the definitions of the graph of calls hold of, and what breaks each alone.
-use Rattle.std.proofs.Common.{◌≡◌, ℕ, true, false, [], ◌∷◌, Option, Some, None, refl}
+use Rattle.std.proofs.Common.{◌≡◌, ℕ, true, false, [], ◌∷◌, Option, refl}
 use Rattle.std.specs.Prelude.{codes}
 use Rattle.seq_tree.specs.declared.tree.OpName.{OpName}
 use Rattle.ods_tree.specs.declared.design.Kind.TheVariants.{Protected}
 use Rattle.ods_tree.proofs.Shared.Short.{block, call}
 use Rattle.ods_index.specs.Calling.{Calls, body_calls}
-use Rattle.ods_calls.specs.Graphed.{body_edges, calls_step, edges_from, edges_to}
+use Rattle.ods_calls.specs.Graphed.{body_edges, calls_step}
 use Rattle.name_sets.specs.FirstPlaces.{op_place_from}
-use Rattle.ods_index.proofs.Shared.SmallDesign.{f, g, go, x}
+use Rattle.ods_index.proofs.Shared.SmallDesign.{f, g, x}
 
--- edges go from a place to that of an operation, where it has one
+-- the places of operations
 abbrev place : OpName → Option ℕ
 place = op_place_from 0 (f ∷ g ∷ [])
-
-edge : edges_to place 1 (f ∷ []) ≡ (1, 0) ∷ []
-edge = refl
-
-edge_without_place : edges_to place 1 (go ∷ []) ≡ []
-edge_without_place = refl
-
-edges_from_place : edges_from place (Some 1) (f ∷ go ∷ []) ≡ (1, 0) ∷ []
-edges_from_place = refl
-
-edges_from_none : edges_from place None (f ∷ []) ≡ []
-edges_from_none = refl
 
 -- a body of q, which requires p.f and calls it
 abbrev body_of_q : OpName → Calls

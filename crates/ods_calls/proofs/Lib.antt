@@ -21,11 +21,11 @@ pub mod NamePlaces
 pub mod ObjectFits
 pub mod ObjectRings
 pub mod OnceCalls
-pub mod PlaceSteps
 pub mod PriceLaws
 pub mod RequestLaws
 pub mod ServedLaws
 pub mod SizeSteps
+pub mod SmallParts
 pub mod SourceLaws
 pub mod SpacingLaws
 pub mod SpotSteps

@@ -1,24 +1,24 @@
 -- What the lower rules say of the operations of an object without children: their names differ, and bodies fit them.
-use Rattle.std.proofs.Common.{◌≡◌, ℕ, suc, ◌+◌, Bool, true, false, not, ◌&&◌, ◌==◌, List, [], ◌∷◌, ◌++◌, map, filter, flat_map, filter_map, length}
-use Rattle.std.proofs.Common.{find, Option, Some, None, option_map, refl, sym, ap, subst, ◌∙◌, arith, inl, inr, ◌⊎◌, if◌then◌else◌}
+use Rattle.std.proofs.Common.{◌≡◌, ℕ, suc, ◌+◌, Bool, true, false, not, ◌&&◌, ◌==◌, List, [], ◌∷◌, ◌++◌, filter, flat_map, filter_map, length}
+use Rattle.std.proofs.Common.{find, Some, option_map, refl, sym, ap, subst, ◌∙◌, arith, inl, inr, ◌⊎◌, if◌then◌else◌}
 use Rattle.std.specs.Prelude.{⊤}
-use Rattle.std.specs.List.{list_any, cons_option, enumerate_from}
-use Rattle.std.proofs.lemmas.Bool.{and_from, and_parts, eqb-true, or_left, or_right, false_from_ne_true, not-true, not-false}
+use Rattle.std.specs.List.{cons_option, enumerate_from}
+use Rattle.std.proofs.lemmas.Bool.{and_from, eqb-true, or_left, false_from_ne_true, not-true, not-false}
 use Rattle.std.proofs.lemmas.List.Filters.{length-filter_both}
 use Rattle.seq_tree.proofs.Shared.SameNames.{is-same, same-is}
 use Rattle.seq_tree.specs.Names.{Name, same_name}
 use Rattle.ods_tree.specs.Designs.{Body, Object, Provided, Design}
 use Rattle.ods_tree.specs.Flattening.{body_named}
 use Rattle.ods_tree.specs.Walk.{Standing, objects, terminals, is_terminal, only_if}
-use Rattle.design_rules.specs.Broken.{Broken, V01, V05}
-use Rattle.design_rules.specs.Clashes.{Role, Member, Mention, excludes, mention, clashes, clashes_after, is_request, is_taken, mentions, object_mentions}
+use Rattle.design_rules.specs.Broken.{V01, V05}
+use Rattle.design_rules.specs.Clashes.{Member, Mention, excludes, mention, clashes, clashes_after, is_taken, mentions, object_mentions}
 use Rattle.design_rules.specs.Clashes.{operation_mentions}
 use Rattle.design_rules.specs.Fittings.{bad_fittings, body_count, is_provided, misfits, misfits_terminal, wanted_bodies}
 use Rattle.design_rules.specs.Lookups.{provided_named, is_sporadic}
 use Rattle.design_rules.specs.Rules.{Clash, Fitting}
 use Rattle.ods_index.specs.Judging.{Passes}
 use Rattle.ods_calls.proofs.CallRings.{bodies-fit, in-place}
-use Rattle.ods_calls.proofs.Items.{In, any-in, from-filter, in-filter, in-flat, in-left, in-right, in-taken}
+use Rattle.ods_calls.proofs.Items.{In, any-in, from-filter, in-flat, in-left, in-right, in-taken}
 
 -- one item of a list before another
 abbrev Before : {A : Type 0} → A → A → List A → Type 0
@@ -86,8 +86,10 @@ heads-before : (k : ℕ) (o : Object) (p q : Provided) (ps : List Provided) → 
     → Before (mention (Member k) p.sig.name) (mention (Member k) q.sig.name) (flat_map (operation_mentions k o) ps)
 heads-before k o p q [] h = absurd h
 heads-before k o p q (r ∷ ps) (inl (e, h)) =
-    inl (ap (λ (z : Provided). mention (Member k) z.sig.name) e,
-    in-right _ _ (flat_map (operation_mentions k o) ps) (in-flat (operation_mentions k o) q (mention (Member k) q.sig.name) ps h (inl refl)))
+    inl (
+      ap (λ (z : Provided). mention (Member k) z.sig.name) e,
+      in-right _ _ (flat_map (operation_mentions k o) ps) (in-flat (operation_mentions k o) q (mention (Member k) q.sig.name) ps h (inl refl)),
+    )
 heads-before k o p q (r ∷ ps) (inr h) =
     before-right _ _ (operation_mentions k o r) (flat_map (operation_mentions k o) ps) (heads-before k o p q ps h)
 
@@ -112,12 +114,12 @@ one-body x passes s h p k idle =
     let wanted : wanted_bodies s.own p ≡ 1 = rw idle refl in
     let fits : not (body_count s.own p.sig.name == wanted_bodies s.own p) ≡ false =
     false_from_ne_true (not (body_count s.own p.sig.name == wanted_bodies s.own p)) (λ e.
-        let any = any-in (λ q. not (body_count s.own q.sig.name == wanted_bodies s.own q)) p s.own.provides k e in
-        let mis : misfits_terminal s.own ≡ true = or_left _ _ (or_left _ _ (or_left _ _ (or_left _ _ (or_left _ _ any)))) in
-        let test : misfits (is_terminal s) s ≡ true = ap (λ t. misfits t s) f.1 ∙ mis in
-        let at = in-place (V05 s.own.name) (bad_fittings x) (in-taken (λ t. only_if (misfits (is_terminal t) t) (V05 t.own.name)) s (V05 s.own.name)
-        (objects x) f.0 (ap (λ t. only_if t (V05 s.own.name)) test)) in
-        passes at.0 (V05 s.own.name) at.1) in
+    let any = any-in (λ q. not (body_count s.own q.sig.name == wanted_bodies s.own q)) p s.own.provides k e in
+    let mis : misfits_terminal s.own ≡ true = or_left _ _ (or_left _ _ (or_left _ _ (or_left _ _ (or_left _ _ any)))) in
+    let test : misfits (is_terminal s) s ≡ true = ap (λ t. misfits t s) f.1 ∙ mis in
+    let at = in-place (V05 s.own.name) (bad_fittings x) (in-taken (λ t. only_if (misfits (is_terminal t) t) (V05 t.own.name)) s (V05 s.own.name)
+    (objects x) f.0 (ap (λ t. only_if t (V05 s.own.name)) test)) in
+    passes at.0 (V05 s.own.name) at.1) in
     eqb-true (body_count s.own p.sig.name) (wanted_bodies s.own p) (not-false _ fits) ∙ wanted
 
 -- an object with one body for each of its operations, and no other

@@ -2,65 +2,17 @@
 use Rattle.std.specs.Prelude.{◌≡◌, ◌⊎◌, ℕ, true, false, List, [], ◌∷◌, Some, None, codes, refl}
 use Rattle.std.proofs.Common.{inl, inr, arith, ap}
 use Rattle.seq_tree.specs.Calls.{same_op}
-use Rattle.seq_tree.specs.Statements.{Statements, Call, End, Then}
-use Rattle.seq_tree.specs.declared.tree.Costs.{Costs}
 use Rattle.seq_tree.specs.declared.tree.OpName.{OpName}
 use Rattle.name_sets.specs.Tables.{at, or_0}
 use Rattle.name_sets.specs.declared.op_table.OpTable.{OpTable}
-use Rattle.ods_tree.specs.Designs.{Body, Design, Empty, Node, Object}
-use Rattle.ods_tree.specs.declared.design.AttrKey.TheVariants.{ArrivalJitter}
-use Rattle.ods_tree.specs.declared.design.Kind.TheVariants.{Protected, Sporadic}
+use Rattle.ods_tree.specs.Designs.{Object}
+use Rattle.ods_tree.specs.declared.design.Kind.TheVariants.{Protected}
 use Rattle.design_rules.specs.Broken.{V10}
 use Rattle.ods_calls.specs.Requested.{AreDue, Knows, changes, greatest_count, held_count, held_named, object_callers, op_callers, source_fault}
 use Rattle.ods_index.specs.Calling.{Calls, body_calls}
 use Rattle.ods_calls.specs.Sourced.{leads_at, reaches_by}
 use Rattle.ods_calls.specs.declared.callers.Callers.{Callers}
-
-abbrev put : OpName
-put = record { object = codes "k"; op = codes "put" }
-
-abbrev set : OpName
-set = record { object = codes "q"; op = codes "set" }
-
-abbrev free : Costs
-free = record { assign = 1; test = 1; turn = 1; call = 1; nothing = 1; put = 1; finish = 1 }
-
-abbrev calls_set : Statements
-calls_set = Then (Call (codes "q") (codes "set") []) End
-
-abbrev put_body : Body
-put_body = record { name = codes "put"; locals = []; block = calls_set }
-
--- a protected object whose operation calls q.set, where it requires these operations
-abbrev keeper : List OpName → Object
-keeper needs = record {
-  name = codes "k";
-  kind = Protected;
-  attrs = [];
-  provides = [];
-  needs = needs;
-  vars = [];
-  bodies = put_body ∷ [];
-  thread = None;
-  links = [];
-}
-
--- a sporadic object that is requested from outside
-abbrev outer : Object
-outer = record {
-  name = codes "q";
-  kind = Sporadic;
-  attrs = record { key = ArrivalJitter; value = 0; unit = None } ∷ [];
-  provides = [];
-  needs = [];
-  vars = [];
-  bodies = [];
-  thread = None;
-  links = [];
-}
-
-abbrev small : Object → Design
-small o = record { name = codes "d"; version = None; costs = free; root = Node o Empty }
+use Rattle.ods_calls.proofs.SmallParts.{calls_set, keeper, outer, put, put_body, set, small}
 
 abbrev body_with : List OpName → Calls
 body_with needs = body_calls (small outer) Protected (codes "k") needs put_body

@@ -1,5 +1,6 @@
 -- The operations that the graph of calls has are those of the flat design, each name meaning the same, where the lower rules are silent.
-use Rattle.std.proofs.Common.{◌≡◌, ◌+◌, Bool, true, false, ◌&&◌, List, [], ◌∷◌, ◌++◌, map, filter, filter_map, flat_map, length, find, Option, Some, None}
+use Rattle.std.proofs.Common.{◌≡◌, ◌+◌, Bool, true, false, ◌&&◌, List, [], ◌∷◌, ◌++◌, map, filter, filter_map, flat_map, length, find, Option, Some}
+use Rattle.std.proofs.Common.{None}
 use Rattle.std.proofs.Common.{append_assoc, option_map, refl, ap, sym, subst, ◌∙◌, inl, inr, ◌⊎◌, if◌then◌else◌}
 use Rattle.std.specs.List.{cons_option}
 use Rattle.std.specs.Option.{option_or}
@@ -13,9 +14,8 @@ use Rattle.seq_tree.specs.Operations.{Operation, Signature}
 use Rattle.seq_tree.specs.Statements.{Statements}
 use Rattle.seq_tree.specs.declared.tree.OpName.{OpName}
 use Rattle.ods_tree.specs.Designs.{Body, Object, Provided, Design}
-use Rattle.ods_tree.specs.Flats.{Guarded, Library, Thread}
+use Rattle.ods_tree.specs.Flats.{Thread}
 use Rattle.ods_tree.specs.Flattening.{body_named, flat, guarded, is_passive, is_protected, libraries, operation_by, operations, request_op, thread_by}
-use Rattle.ods_tree.specs.Flattening.{threads}
 use Rattle.ods_tree.specs.Links.{resolved}
 use Rattle.ods_tree.specs.Services.{Sort, Plain, Protected, Service, flat_services, is_service, plain_services, protected_services, request_service}
 use Rattle.ods_tree.specs.Services.{requests, service_named}
@@ -31,7 +31,7 @@ use Rattle.call_graph.specs.Entries as works
 use Rattle.ods_index.specs.Calling.{Calls, body_calls, design_calls, object_calls}
 use Rattle.ods_index.specs.Judging.{Passes}
 use Rattle.ods_calls.specs.Costed.{body_entry, body_work, meant_work, request_in, request_served, services_in}
-use Rattle.ods_calls.proofs.Items.{In, from-filter}
+use Rattle.ods_calls.proofs.Items.{In}
 use Rattle.ods_calls.proofs.ObjectFits.{HasBodies, all-given, as-many, find-in, has-bodies}
 
 -- the operations of a design, added one part after another

@@ -9,10 +9,10 @@ use Rattle.name_sets.specs.Places.{place_in}
 use Rattle.name_sets.specs.Tables.{at}
 use Rattle.ods_tree.specs.Designs.{Design, Object}
 use Rattle.ods_index.specs.Calling.{Calls}
-use Rattle.ods_calls.specs.Graphed.{edges_from, edges_to}
 use Rattle.ods_calls.specs.Spotted.{spot_in}
 use Rattle.ods_calls.specs.Starting.{Op, Spot, Thread, start_edges}
 use Rattle.ods_calls.specs.declared.spots.Spots.{Spots}
+use Rattle.call_graph.specs.Edges.{edges_to, edges_from}
 
 -- no places
 pub none-in : (t : Spots) → ((n : Name) → place_in t.threads n ≡ None) → ((n : OpName) → at t.ops n ≡ None) → (s : Spot) → spot_in t s ≡ None

@@ -1,43 +1,17 @@
 -- Examples: what threads are found to reach, and what breaks each definition alone.
-use Rattle.std.specs.Prelude.{◌≡◌, true, false, List, [], ◌∷◌, Some, None, codes, refl}
+use Rattle.std.specs.Prelude.{◌≡◌, true, false, [], ◌∷◌, codes, refl}
 use Rattle.std.proofs.Common.{sym, ◌∙◌}
-use Rattle.seq_tree.specs.Statements.{Call, End, Then}
-use Rattle.seq_tree.specs.declared.tree.Costs.{Costs}
 use Rattle.seq_tree.specs.declared.tree.OpName.{OpName}
 use Rattle.name_sets.specs.Sets.{has_op}
 use Rattle.name_sets.specs.declared.sets.Ops.{Ops}
-use Rattle.ods_tree.specs.Designs.{Design, Empty, Node, Object}
-use Rattle.ods_tree.specs.declared.design.AttrKey.TheVariants.{Period}
 use Rattle.ods_index.specs.Calling.{Calls}
 use Rattle.ods_tree.specs.declared.design.Kind.{Kind}
 use Rattle.ods_tree.specs.declared.design.Kind.TheVariants.{Cyclic, Protected}
 use Rattle.ods_calls.specs.Spreading.{IsSeen, body_steps, found_all, found_more, reaches, spread}
-
-abbrev set : OpName
-set = record { object = codes "q"; op = codes "set" }
+use Rattle.ods_calls.proofs.SmallParts.{caller, calls_set, set, small}
 
 abbrev get : OpName
 get = record { object = codes "q"; op = codes "get" }
-
-abbrev free : Costs
-free = record { assign = 1; test = 1; turn = 1; call = 1; nothing = 1; put = 1; finish = 1 }
-
--- a thread that calls q.set, where it requires these operations
-abbrev caller : List OpName → Object
-caller needs = record {
-  name = codes "a";
-  kind = Cyclic;
-  attrs = record { key = Period; value = 5; unit = None } ∷ [];
-  provides = [];
-  needs = needs;
-  vars = [];
-  bodies = record { name = codes "do"; locals = []; block = Then (Call (codes "q") (codes "set") []) End } ∷ [];
-  thread = Some (Then (Call (codes "q") (codes "set") []) End);
-  links = [];
-}
-
-abbrev small : List OpName → Design
-small needs = record { name = codes "d"; version = None; costs = free; root = Node (caller needs) Empty }
 
 found_once : found_more [] set ≡ set ∷ []
 unfolding found_more
@@ -76,7 +50,7 @@ body_in kind = record {
   kind = kind;
   name = record { object = codes "a"; op = codes "do" };
   needs = set ∷ [];
-  block = Then (Call (codes "q") (codes "set") []) End;
+  block = calls_set;
   meant = set ∷ [];
 }
 
@@ -89,8 +63,8 @@ body_of_other_name = refl
 body_of_other_kind : body_steps (record { object = codes "a"; op = codes "do" }) (body_in Cyclic) ≡ []
 body_of_other_kind = refl
 
-reached_by_call : reaches (small (set ∷ [])) (caller (set ∷ [])) (codes "q") ≡ true
+reached_by_call : reaches (small (caller (set ∷ []))) (caller (set ∷ [])) (codes "q") ≡ true
 reached_by_call = refl
 
-not_reached_without_need : reaches (small []) (caller []) (codes "q") ≡ false
+not_reached_without_need : reaches (small (caller [])) (caller []) (codes "q") ≡ false
 not_reached_without_need = refl

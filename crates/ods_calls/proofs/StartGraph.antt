@@ -1,6 +1,7 @@
 -- The edges of the graph of starts are the calls of threads and of protected operations, by their places.
 -- So rings of starts between threads are rings between places.
-use Rattle.std.proofs.Common.{◌≡◌, ◌⊎◌, inl, inr, ℕ, zero, suc, ◌≤◌, ◌<◌, ◌+◌, ◌==◌, Bool, true, false, ◌&&◌, ◌||◌, List, [], ◌∷◌, ◌++◌, map, filter_map, flat_map}
+use Rattle.std.proofs.Common.{◌≡◌, ◌⊎◌, inl, inr, ℕ, zero, suc, ◌≤◌, ◌<◌, ◌+◌, ◌==◌, Bool, true, false, ◌&&◌, ◌||◌, List, [], ◌∷◌, ◌++◌, map}
+use Rattle.std.proofs.Common.{filter_map, flat_map}
 use Rattle.std.proofs.Common.{length, get_or, slice_get, nat_lt, Option, Some, None, refl, sym, ap, subst, ◌∙◌, arith, if◌then◌else◌}
 use Rattle.std.proofs.Common.{Result, Ok, Err, Bor, filter}
 use Rattle.std.specs.Prelude.{option_map}
@@ -29,11 +30,11 @@ use Rattle.ods_index.specs.Nodes.{node_name, node_object}
 use Rattle.ods_index.specs.OwnOps.{own_ops}
 use Rattle.ods_index.specs.Told.{is_memory, told_of}
 use Rattle.ods_index.specs.declared.broken.Broken as code
-use Rattle.ods_calls.specs.Graphed.{edges_from}
 use Rattle.ods_calls.specs.Held.{held_bodies, is_held}
 use Rattle.ods_calls.specs.Keys.{has_target}
 use Rattle.ods_calls.specs.Spreading.{direct_calls}
-use Rattle.ods_calls.specs.Starting.{Op, Spot, Thread, aimed, held_edges, held_place, same_spot, source_place, spot_from, spots_of, start_edges, thread_edges}
+use Rattle.ods_calls.specs.Starting.{Op, Spot, Thread, aimed, held_edges, held_place, same_spot, source_place, spot_from, spots_of, start_edges}
+use Rattle.ods_calls.specs.Starting.{thread_edges}
 use Rattle.ods_calls.specs.declared.spots.Part.{Part}
 use Rattle.ods_calls.specs.declared.spots.Part.TheVariants.{Threads, Operations}
 use Rattle.ods_calls.proofs.BodyEdges.{call-of, edge-of}
@@ -46,6 +47,7 @@ use Rattle.ods_calls.proofs.StartPaths.{Aimed, Leads, among-in, in-among, leads-
 use Rattle.rings.proofs.Shared.NamedRings.{ring_of_names, ring_of_places}
 use Rattle.rings.specs.Graphs.{is_step}
 use Rattle.rings.specs.Reached.{Goes, IsFirstOnRing}
+use Rattle.call_graph.specs.Edges.{edges_from}
 
 -- two that are one
 pub spot-is : (s t : Spot) → same_spot s t ≡ true → s ≡ t

@@ -1,8 +1,8 @@
 -- Paths of the graph of starts, by names: a thread starts another where a path leads to it through operations alone.
 -- So a thread is on a ring of starts where it is on a ring of that graph.
-use Rattle.std.proofs.Common.{◌≡◌, ◌⊎◌, inl, inr, ℕ, zero, suc, ◌&&◌, Bool, true, false, List, [], ◌∷◌, ◌++◌, map, flat_map, length, refl, sym, ap, subst, ◌∙◌}
+use Rattle.std.proofs.Common.{◌≡◌, ◌⊎◌, inl, inr, ◌&&◌, Bool, true, false, List, [], ◌∷◌, ◌++◌, map, length, refl, sym, ap, subst, ◌∙◌}
 use Rattle.std.specs.List.{list_any}
-use Rattle.std.proofs.lemmas.Bool.{and_from, and_parts, or_cases}
+use Rattle.std.proofs.lemmas.Bool.{and_from, and_parts}
 use Rattle.seq_tree.proofs.Shared.SameNames.{same-is, same-self}
 use Rattle.seq_tree.proofs.Shared.Walks.{LeadOn, Step, leads-within, same_op-eq, same_op-refl, within, within-here, within-leads}
 use Rattle.seq_tree.specs.Calls.{same_op}

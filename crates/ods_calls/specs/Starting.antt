@@ -8,13 +8,14 @@ use Rattle.ods_tree.specs.Designs.{Object, Design}
 use Rattle.name_sets.specs.FirstPlaces.{place_where}
 use Rattle.design_rules.specs.Rings.{thread_objects}
 use Rattle.ods_index.specs.Calling.{Calls, design_calls}
-use Rattle.ods_calls.specs.Graphed.{body_edges, edges_from}
+use Rattle.ods_calls.specs.Graphed.{body_edges}
 use Rattle.ods_calls.specs.Held.{held_bodies, is_held}
 use Rattle.ods_calls.specs.Keys.{has_target}
 use Rattle.ods_calls.specs.Spreading.{direct_calls}
 use Rattle.ods_calls.specs.declared.spots.Part.{Part}
 use Rattle.ods_calls.specs.declared.spots.Part.TheVariants.{Threads, Operations}
 use Rattle.rings.specs.Graphs.{is_step}
+use Rattle.call_graph.specs.Edges.{edges_from}
 
 -- what stands at a place, by its name
 pub data Spot : Type 0 where

@@ -9,7 +9,8 @@ ghost use Rattle.rings.specs.Reached.{IsFirstOnRing};
 ghost use Rattle.seq_cost.specs.Different.{call_of};
 
 use crate::edges::edges_of;
-use ods_index::{Broken, Index, op_places, ops_of};
+use call_graph::op_places;
+use ods_index::{Broken, Index, ops_of};
 use rings::first_on_ring;
 use seq_cost::Call;
 use seq_tree::{NoMemory, OpName};

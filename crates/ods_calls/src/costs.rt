@@ -1,9 +1,7 @@
-ghost use Rattle.std.specs.Prelude.{◌≡◌, ℕ, ◌+◌, Option, None, Some, IfOk, length, map, min};
+ghost use Rattle.std.specs.Prelude.{◌≡◌, ◌+◌, Option, IfOk, min};
 ghost use Rattle.seq_tree.specs.Dearest.{cost};
 ghost use Rattle.seq_tree.specs.Trees.{block_of};
-ghost use Rattle.seq_tree.specs.declared.tree.OpName.{OpName};
 ghost use Rattle.name_sets.specs.Tables.{at};
-ghost use Rattle.ods_tree.specs.Links.{resolve};
 ghost use Rattle.ods_tree.specs.Trees.{design_of};
 ghost use Rattle.call_graph.specs.Prices.{cap};
 ghost use Rattle.design_rules.specs.Budgets.{body_cost};

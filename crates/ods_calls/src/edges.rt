@@ -1,13 +1,13 @@
-ghost use Rattle.std.specs.Prelude.{◌≡◌, ◌∷◌, ◌++◌, [], ℕ, None, Option, IfOk, OnOk, flat_map, map};
+ghost use Rattle.std.specs.Prelude.{◌≡◌, ℕ, Option, IfOk, flat_map, map};
+ghost use Rattle.name_sets.specs.Places.{place_in};
 ghost use Rattle.name_sets.specs.Tables.{at};
 ghost use Rattle.ods_index.specs.Calling.{Calls, calls_of};
-ghost use Rattle.ods_calls.specs.Graphed.{body_edges, edges_to};
-ghost use Rattle.seq_cost.specs.Different.{call_of};
+ghost use Rattle.ods_calls.specs.Graphed.{body_edges};
+ghost use Rattle.ods_calls.specs.Guarded.{guard_place};
 
-use call_graph::CallPlaces;
-use name_sets::OpTable;
-use ods_index::OpCalls;
-use seq_cost::Call;
+use call_graph::{CallPlaces, add_edges};
+use name_sets::{OpTable, Places};
+use ods_index::{OpCalls, is_protected};
 use seq_tree::NoMemory;
 use std::alloc::Global;
 
@@ -32,50 +32,17 @@ impl BodyPlaces for OpTable<'_, usize> {
     }
 }
 
-/// Adds the edge from a place to that of an operation, where it has one.
-fn add_edge<P: CallPlaces>(
-    places: &P,
-    from: usize,
-    op: &Call<'_>,
-    edges: &mut Vec<(usize, usize)>,
-) -> Result<(), NoMemory>
-    ensures { OnOk result (edges.new.items ≡ edges.old.items ++ edges_to (P.places places.now) from (call_of op.now ∷ [])) }
-{
-    match places.place(op.object, op.op) {
-        None => Ok(()),
-        Some(to) => {
-            edges.push((from, to))?;
-            Ok(())
+/// The bodies of protected objects, by the names of these.
+impl BodyPlaces for Places<'_> {
+    ghost sources = { λ t. guard_place (place_in t) };
+
+    fn source(&self, calls: &OpCalls<'_>) -> Option<usize>
+        ensures { result ≡ guard_place (place_in self.now) (calls_of calls.now) }
+    {
+        if !is_protected(calls.kind) {
+            return None;
         }
-    }
-}
-
-/// Adds the edges from a place to those of operations.
-pub(crate) fn add_edges<P: CallPlaces>(
-    places: &P,
-    from: usize,
-    ops: &[Call<'_>],
-    edges: &mut Vec<(usize, usize)>,
-) -> Result<(), NoMemory>
-    ensures { OnOk result (edges.new.items ≡ edges.old.items ++ edges_to (P.places places.now) from (map call_of ops.now)) }
-{
-    'ops: for op in ops {
-        add_edge(places, from, op, edges)?;
-    }
-    Ok(())
-}
-
-/// Adds the edges of a body, where it has a place.
-fn add_body<P: BodyPlaces>(
-    places: &P,
-    calls: &OpCalls<'_>,
-    edges: &mut Vec<(usize, usize)>,
-) -> Result<(), NoMemory>
-    ensures { OnOk result (edges.new.items ≡ edges.old.items ++ body_edges (P.sources places.now) (P.places places.now) (calls_of calls.now)) }
-{
-    match places.source(calls) {
-        None => Ok(()),
-        Some(from) => add_edges(places, from, calls.meant.as_slice(), edges),
+        self.get(calls.object)
     }
 }
 
@@ -90,7 +57,8 @@ pub(crate) fn edges_of<P: BodyPlaces>(
 {
     let mut edges = Vec::new(alloc);
     'bodies: for calls in bodies {
-        add_body(places, calls, &mut edges)?;
+        let from = places.source(calls);
+        add_edges(places, from, calls.meant.as_slice(), &mut edges)?;
     }
     Ok(edges)
 }

@@ -1,23 +1,19 @@
 ghost use Rattle.std.specs.Prelude.{◌≡◌, ◌∷◌, ◌++◌, [], Some, IfOk, OnOk, map, option_map, slice_get};
-ghost use Rattle.name_sets.specs.Places.{place_in};
 ghost use Rattle.ods_tree.specs.Trees.{design_of};
 ghost use Rattle.design_rules.specs.Broken.{V09Objects};
 ghost use Rattle.design_rules.specs.Rules.{RingedObject};
-ghost use Rattle.ods_calls.specs.Guarded.{guard_place, guards_among, guards_step};
-ghost use Rattle.ods_index.specs.Calling.{calls_of};
+ghost use Rattle.ods_calls.specs.Guarded.{guards_among, guards_step};
 ghost use Rattle.ods_index.specs.Indexing.{IsIndex};
 ghost use Rattle.ods_index.specs.Judging.{Judges, Tells};
 ghost use Rattle.ods_index.specs.Nodes.{node_name, node_object};
 ghost use Rattle.ods_index.specs.Walking.{object_of, standing_of};
 ghost use Rattle.rings.specs.Reached.{IsFirstOnRing};
 
-use crate::edges::{BodyPlaces, edges_of};
-use call_graph::CallPlaces;
-use name_sets::Places;
-use ods_index::{Broken, Index, OpCalls, Standing, is_protected, is_terminal, places_of};
+use crate::edges::edges_of;
+use ods_index::{Broken, Index, Standing, is_protected, is_terminal, places_of};
 use ods_tree::Node;
 use rings::first_on_ring;
-use seq_tree::{Name, NoMemory};
+use seq_tree::NoMemory;
 use std::alloc::Global;
 
 /// Adds an object, where it is protected and has no children.
@@ -44,36 +40,6 @@ fn guards_of<'a>(alloc: Global, objects: &[Standing<'a>]) -> Result<Vec<&'a Node
         add_guard(standing, &mut guards)?;
     }
     Ok(guards)
-}
-
-/// The places of protected objects by their names.
-#[derive(Drop)]
-struct ObjectPlaces<'a> {
-    names: Places<'a>,
-}
-
-impl CallPlaces for ObjectPlaces<'_> {
-    ghost places = { λ t k. place_in t.names k.object };
-
-    fn place(&self, object: &Name, _op: &Name) -> Option<usize>
-        ensures { result ≡ place_in self.now.names object.now }
-    {
-        self.names.get(object)
-    }
-}
-
-/// The bodies of protected objects, by the names of these.
-impl BodyPlaces for ObjectPlaces<'_> {
-    ghost sources = { λ t. guard_place (place_in t.names) };
-
-    fn source(&self, calls: &OpCalls<'_>) -> Option<usize>
-        ensures { result ≡ guard_place (place_in self.now.names) (calls_of calls.now) }
-    {
-        if !is_protected(calls.kind) {
-            return None;
-        }
-        self.names.get(calls.object)
-    }
 }
 
 /// Tells an object on a ring of calls.
@@ -104,8 +70,7 @@ fn first_ringed<'a>(
     requires { IsIndex index.now }
     ensures { IfOk result (IsFirstOnRing (guards_step (design_of index.entry.now.design.now) (map node_object guards.entry.now))) }
 {
-    let names = places_of(alloc, guards)?;
-    let places = ObjectPlaces { names };
+    let places = places_of(alloc, guards)?;
     let edges = edges_of(alloc, &places, index.calls.as_slice())?;
     first_on_ring(alloc, guards.len(), edges.as_slice())
 }

@@ -24,11 +24,7 @@ fn body_in<'a>(kind: Kind, calls: &OpCalls<'a>) -> Option<Body<'a>>
 }
 
 /// Adds an operation by its body, where its object is of this kind.
-fn add_body<'a>(
-    kind: Kind,
-    calls: &OpCalls<'a>,
-    into: &mut Vec<Served<'a>>,
-) -> Result<(), NoMemory>
+fn add_body<'a>(kind: Kind, calls: &OpCalls<'a>, into: &mut Vec<Served<'a>>) -> Result<(), NoMemory>
     ensures { OnOk result (map entry_at into.new.items ≡ map entry_at into.old.items
         ++ filter_map (body_entry kind) (calls_of calls.entry.now ∷ [])) }
 {
@@ -61,10 +57,7 @@ fn add_bodies<'a>(
 }
 
 /// Adds the request of a sporadic object with a thread and without children.
-fn add_request<'a>(
-    standing: &Standing<'a>,
-    into: &mut Vec<Served<'a>>,
-) -> Result<(), NoMemory>
+fn add_request<'a>(standing: &Standing<'a>, into: &mut Vec<Served<'a>>) -> Result<(), NoMemory>
     ensures { OnOk result (map entry_at into.new.items ≡ map entry_at into.old.items ++ request_served (standing_of standing.entry.now)) }
 {
     let node = standing.node;
@@ -85,10 +78,7 @@ fn add_request<'a>(
 }
 
 /// Adds the requests of objects.
-fn add_requests<'a>(
-    objects: &[Standing<'a>],
-    into: &mut Vec<Served<'a>>,
-) -> Result<(), NoMemory>
+fn add_requests<'a>(objects: &[Standing<'a>], into: &mut Vec<Served<'a>>) -> Result<(), NoMemory>
     ensures { OnOk result (map entry_at into.new.items ≡ map entry_at into.old.items
         ++ flat_map request_served (map standing_of objects.entry.now)) }
 {
@@ -99,10 +89,7 @@ fn add_requests<'a>(
 }
 
 /// The operations of a design that may be called: those of passive objects and of protected ones by their bodies, and the requests.
-pub(crate) fn services_of<'a>(
-    alloc: Global,
-    index: &Index<'a>,
-) -> Result<Vec<Served<'a>>, NoMemory>
+pub(crate) fn services_of<'a>(alloc: Global, index: &Index<'a>) -> Result<Vec<Served<'a>>, NoMemory>
     requires { IsIndex index.now }
     ensures { IfOk result (λ v. map entry_at v.items ≡ services_in (design_of index.entry.now.design.now)) }
 {

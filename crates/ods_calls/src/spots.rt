@@ -1,7 +1,6 @@
-ghost use Rattle.std.specs.Prelude.{◌≡◌, ◌∷◌, ◌++◌, [], Some, None, Option, ℕ, IfOk, OnOk, filter, if◌then◌else◌, map};
-ghost use Rattle.ods_index.specs.Calling.{Calls, calls_of};
+ghost use Rattle.std.specs.Prelude.{◌≡◌, ◌∷◌, ◌++◌, [], Some, None, Option, IfOk, OnOk, filter, if◌then◌else◌, map};
+ghost use Rattle.ods_index.specs.Calling.{calls_of};
 ghost use Rattle.ods_index.specs.Nodes.{node_object};
-ghost use Rattle.ods_index.specs.Walking.{object_of};
 ghost use Rattle.ods_calls.specs.Held.{is_held};
 ghost use Rattle.ods_calls.specs.Spotted.{spot_in, spot_of};
 ghost use Rattle.ods_calls.specs.Starting.{Spot as SpotTree, aimed, held_edges, held_place, same_spot, spot_from, spots_among};
@@ -165,8 +164,14 @@ pub(crate) fn held_edges<'a>(
     ensures { IfOk result (λ v. v.items
         ≡ held_edges (spot_in spots.now) Threads (map calls_of calls.now) ++ held_edges (spot_in spots.now) Operations (map calls_of calls.now)) }
 {
-    let threads = Aim { spots, part: Part::Threads };
-    let ops = Aim { spots, part: Part::Operations };
+    let threads = Aim {
+        spots,
+        part: Part::Threads,
+    };
+    let ops = Aim {
+        spots,
+        part: Part::Operations,
+    };
     let mut edges = edges_of(alloc, &threads, calls)?;
     let more = edges_of(alloc, &ops, calls)?;
     edges.extend_from_slice(more.as_slice())?;

@@ -13,10 +13,10 @@ ghost use Rattle.ods_calls.specs.Spotted.{spot_in};
 ghost use Rattle.ods_calls.specs.Starting.{source_place, start_edges, starts_step, thread_edges};
 ghost use Rattle.rings.specs.Reached.{IsFirstOnRing};
 
-use crate::edges::add_edges;
 use crate::keys::{any_sporadic, targets_of};
 use crate::spots::{Aim, Part, Spots, held_edges, spots_of};
 use crate::starts::{thread_starts, threads_of};
+use call_graph::add_edges;
 use name_sets::Places;
 use ods_index::{Broken, Index, Links, OpCalls};
 use ods_tree::Node;
@@ -51,10 +51,16 @@ fn add_thread<'a>(
         None => Ok(()),
         Some(from) => {
             let calls = thread_starts(alloc, links, node)?;
-            let threads = Aim { spots, part: Part::Threads };
-            add_edges(&threads, from, calls.as_slice(), edges)?;
-            let ops = Aim { spots, part: Part::Operations };
-            add_edges(&ops, from, calls.as_slice(), edges)
+            let threads = Aim {
+                spots,
+                part: Part::Threads,
+            };
+            add_edges(&threads, Some(from), calls.as_slice(), edges)?;
+            let ops = Aim {
+                spots,
+                part: Part::Operations,
+            };
+            add_edges(&ops, Some(from), calls.as_slice(), edges)
         }
     }
 }

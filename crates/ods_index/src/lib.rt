@@ -35,7 +35,7 @@ pub use kinds::{
     kind_place,
 };
 pub use links::Links;
-pub use ops::{op_places, ops_of};
+pub use ops::ops_of;
 pub use required::Required;
 pub use scopes::Scope;
 pub use tables::{ProvidedOps, places_of};

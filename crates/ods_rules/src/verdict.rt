@@ -1,8 +1,8 @@
-ghost use Rattle.std.specs.Prelude.{◌≡◌, ◌<◌, IfOk, IfSome, Some, length, suc};
+ghost use Rattle.std.specs.Prelude.{◌≡◌, ◌<◌, ◌≤◌, IfOk, IfSome, Some, length, suc, true};
 ghost use Rattle.ods_tree.specs.Trees.{design_of};
 ghost use Rattle.ods_tree.specs.Walk.{objects};
 ghost use Rattle.design_rules.specs.Budgets.{bad_budgets, bad_sizes};
-ghost use Rattle.design_rules.specs.Rules.{Offends, Version};
+ghost use Rattle.design_rules.specs.Rules.{Budget, Offends, Size, Version, number_of};
 ghost use Rattle.ods_rules.specs.Checks.{Says};
 ghost use Rattle.ods_index.specs.Indexing.{IsIndex};
 ghost use Rattle.ods_index.specs.Judging.{Judges, Passes, PassesBefore, Tells, head_of};
@@ -74,11 +74,13 @@ fn next(rule: Rule) -> Option<Rule>
 }
 
 /// Whether a rule asks for what blocks cost.
-fn asks_costs(rule: Rule) -> bool {
+fn asks_costs(rule: Rule) -> bool
+    ensures { result ≡ true → number_of Budget ≤ number_of (rule_of rule) }
+{
     matches!(rule, Rule::Budget | Rule::Size)
 }
 
-/// What the blocks of a design cost, where it was known or the rule that is judged now asks for it.
+/// What the blocks of a design cost, where it was known or the rule that is judged now asks for it. No lower one is broken.
 fn priced_for<'k, 'a>(
     alloc: Global,
     index: &'k Index<'a>,
@@ -87,6 +89,7 @@ fn priced_for<'k, 'a>(
 ) -> Result<Option<Priced<'k, 'a>>, NoMemory>
     requires indexed { IsIndex index.now }
     requires same { IfSome known (λ p. priced_design p ≡ design_of index.now.design.now) }
+    requires before { PassesBefore (design_of index.now.design.now) (rule_of rule) }
     ensures { IfOk result (λ o. IfSome o (λ p. priced_design p ≡ design_of index.entry.now.design.now)) }
 {
     if known.is_some() || !asks_costs(rule) {
@@ -96,7 +99,7 @@ fn priced_for<'k, 'a>(
     Ok(Some(priced))
 }
 
-/// V14: tells the first offender, by what blocks cost where that is known.
+/// V14: tells the first offender, where no lower rule is broken, by what blocks cost where that is known.
 fn judge_budgets<'a>(
     alloc: Global,
     index: &Index<'a>,
@@ -104,6 +107,7 @@ fn judge_budgets<'a>(
 ) -> Result<(), Broken>
     requires indexed { IsIndex index.now }
     requires same { IfSome known.now (λ p. priced_design p ≡ design_of index.now.design.now) }
+    requires before { PassesBefore (design_of index.now.design.now) Budget }
     ensures { Tells result (head_of (bad_budgets (design_of index.entry.now.design.now))) }
 {
     match known {
@@ -115,7 +119,7 @@ fn judge_budgets<'a>(
     }
 }
 
-/// V15: tells the first offender, by what blocks cost where that is known.
+/// V15: tells the first offender, where no lower rule is broken, by what blocks cost where that is known.
 fn judge_sizes<'a>(
     alloc: Global,
     index: &Index<'a>,
@@ -124,6 +128,7 @@ fn judge_sizes<'a>(
     requires indexed { IsIndex index.now }
     requires few { length (objects (design_of index.now.design.now)) < 4294967296 }
     requires same { IfSome known.now (λ p. priced_design p ≡ design_of index.now.design.now) }
+    requires before { PassesBefore (design_of index.now.design.now) Size }
     ensures { Tells result (head_of (bad_sizes (design_of index.entry.now.design.now))) }
 {
     match known {

@@ -1,40 +1,58 @@
-use Rattle.std.proofs.Common.{◌≡◌, ℕ, false, get_or, length, map, ap, sym, ◌∙◌}
+use Rattle.std.proofs.Common.{◌≡◌, ◌||◌, ℕ, false, get_or, length, map, ap, sym, ◌∙◌}
+use Rattle.std.specs.List.{list_any}
+use Rattle.std.proofs.Math.Bool.{or-false}
 use Rattle.std.proofs.lemmas.List.{length-map}
+use Rattle.seq_tree.specs.Calls.{same_op}
+use Rattle.seq_tree.specs.declared.tree.OpName.{OpName}
+use Rattle.seq_cost.specs.Different.{call_of}
 use Rattle.name_sets.specs.Sets.{has_op}
 use Rattle.name_sets.specs.Tables.{at}
 use Rattle.rings.specs.Graphs.{is_step}
 use Rattle.rings.specs.Reached.{leads}
-use Rattle.ada_rules.specs.Edges.{edge_of}
-use Rattle.ada_rules.specs.Places.{steps_of}
-use Rattle.ada_rules.proofs.PlaceLaws.{follow_complete, follow_sound}
+use Rattle.ada_rules.specs.Callers.{caller_edges, caller_of, is_led_to, names}
+use Rattle.ada_rules.proofs.ReachLaws.{follow_complete, follow_sound}
 use Rattle.ada_rules.proofs.requests.follow.Goals as goal
 
 pub returns-clause-sound : goal.returns-clause-sound
 returns-clause-sound c = λ n h.
-    let es = map edge_of c.args.edges.now in
-    let count = c.in_ok-graph.ensures.count ∙ sym (length-map c.args.edges.now edge_of) in
-    let stepped : (p q : ℕ) → leads c.in_ok-graph.graph p q ≡ is_step (length es) (steps_of (at c.in_ok-places.places) es) p q = λ p q.
-    c.in_ok-graph.ensures.edges p q ∙ ap (λ n. is_step n c.as_slice.result.now p q) (sym (length-map c.args.edges.now edge_of)) ∙ ap
-    (λ ss. is_step (length es) ss p q) (c.as_slice.ensures.value ∙ c.in_ok-steps.ensures) in
+    let cs = map caller_of c.args.callers.now in
+    let place = at c.in_ok-places.places in
+    let long : length c.args.callers.now ≡ length (names cs) = sym (length-map cs (λ k. k.name) ∙ length-map c.args.callers.now caller_of) in
+    let stepped : (p q : ℕ) → leads c.in_ok-graph.graph p q ≡ is_step (length (names cs)) (caller_edges place cs) p q = λ p q.
+    c.in_ok-graph.ensures.edges p q ∙ ap (λ k. is_step k c.as_slice.result.now p q) long
+    ∙ ap (λ es. is_step (length (names cs)) es p q) (c.as_slice.ensures.value ∙ c.in_ok-edges.ensures) in
     let marked = c.as_slice-3.ensures.value in
-    follow_sound es (at c.in_ok-places.places) c.in_ok-places.ensures (leads c.in_ok-graph.graph) stepped
-    (has_op c.args.called.now) c.as_slice-2.result.now (c.as_slice-2.ensures.value ∙ c.in_ok-starts.ensures)
-    c.in_ok-graph.graph.count count c.as_slice-3.result.now
-    (λ p h. c.in_ok-marks.ensures.sound p (ap (λ ms. get_or ms p false) (sym marked) ∙ h))
-    (λ p h. ap (λ ms. get_or ms p false) marked ∙ c.in_ok-marks.ensures.complete p h)
-    (has_op c.add_targets.new.called) c.in_ok-add_targets.ensures n h
+    let begun = map call_of c.args.calls.now in
+    let added : (m : OpName) → has_op c.add_callers.new.called m
+    ≡ (is_led_to place c.as_slice-3.result.now cs m || list_any (λ k. same_op k m) begun) =
+    λ m. c.in_ok-add_callers.ensures m ∙ ap (λ b. is_led_to place c.as_slice-3.result.now cs m || b)
+    (c.in_ok-add_calls.ensures m ∙ ap (λ b. list_any (λ k. same_op k m) begun || b) (c.new-called.ensures m)
+    ∙ or-false (list_any (λ k. same_op k m) begun)) in
+    follow_sound cs place c.in_ok-places.ensures (leads c.in_ok-graph.graph) stepped begun
+    c.as_slice-2.result.now (c.as_slice-2.ensures.value ∙ c.in_ok-starts.ensures) c.in_ok-graph.graph.count (c.in_ok-graph.ensures.count ∙ long)
+    c.as_slice-3.result.now
+    (λ p k. c.in_ok-marks.ensures.sound p (ap (λ ms. get_or ms p false) (sym marked) ∙ k))
+    (λ p k. ap (λ ms. get_or ms p false) marked ∙ c.in_ok-marks.ensures.complete p k)
+    (has_op c.add_callers.new.called) added n h
 
 pub returns-clause-complete : goal.returns-clause-complete
 returns-clause-complete c = λ n h.
-    let es = map edge_of c.args.edges.now in
-    let count = c.in_ok-graph.ensures.count ∙ sym (length-map c.args.edges.now edge_of) in
-    let stepped : (p q : ℕ) → leads c.in_ok-graph.graph p q ≡ is_step (length es) (steps_of (at c.in_ok-places.places) es) p q = λ p q.
-    c.in_ok-graph.ensures.edges p q ∙ ap (λ n. is_step n c.as_slice.result.now p q) (sym (length-map c.args.edges.now edge_of)) ∙ ap
-    (λ ss. is_step (length es) ss p q) (c.as_slice.ensures.value ∙ c.in_ok-steps.ensures) in
+    let cs = map caller_of c.args.callers.now in
+    let place = at c.in_ok-places.places in
+    let long : length c.args.callers.now ≡ length (names cs) = sym (length-map cs (λ k. k.name) ∙ length-map c.args.callers.now caller_of) in
+    let stepped : (p q : ℕ) → leads c.in_ok-graph.graph p q ≡ is_step (length (names cs)) (caller_edges place cs) p q = λ p q.
+    c.in_ok-graph.ensures.edges p q ∙ ap (λ k. is_step k c.as_slice.result.now p q) long
+    ∙ ap (λ es. is_step (length (names cs)) es p q) (c.as_slice.ensures.value ∙ c.in_ok-edges.ensures) in
     let marked = c.as_slice-3.ensures.value in
-    follow_complete es (at c.in_ok-places.places) c.in_ok-places.ensures (leads c.in_ok-graph.graph) stepped
-    (has_op c.args.called.now) c.as_slice-2.result.now (c.as_slice-2.ensures.value ∙ c.in_ok-starts.ensures)
-    c.in_ok-graph.graph.count count c.as_slice-3.result.now
-    (λ p h. c.in_ok-marks.ensures.sound p (ap (λ ms. get_or ms p false) (sym marked) ∙ h))
-    (λ p h. ap (λ ms. get_or ms p false) marked ∙ c.in_ok-marks.ensures.complete p h)
-    (has_op c.add_targets.new.called) c.in_ok-add_targets.ensures n h
+    let begun = map call_of c.args.calls.now in
+    let added : (m : OpName) → has_op c.add_callers.new.called m
+    ≡ (is_led_to place c.as_slice-3.result.now cs m || list_any (λ k. same_op k m) begun) =
+    λ m. c.in_ok-add_callers.ensures m ∙ ap (λ b. is_led_to place c.as_slice-3.result.now cs m || b)
+    (c.in_ok-add_calls.ensures m ∙ ap (λ b. list_any (λ k. same_op k m) begun || b) (c.new-called.ensures m)
+    ∙ or-false (list_any (λ k. same_op k m) begun)) in
+    follow_complete cs place c.in_ok-places.ensures (leads c.in_ok-graph.graph) stepped begun
+    c.as_slice-2.result.now (c.as_slice-2.ensures.value ∙ c.in_ok-starts.ensures) c.in_ok-graph.graph.count (c.in_ok-graph.ensures.count ∙ long)
+    c.as_slice-3.result.now
+    (λ p k. c.in_ok-marks.ensures.sound p (ap (λ ms. get_or ms p false) (sym marked) ∙ k))
+    (λ p k. ap (λ ms. get_or ms p false) marked ∙ c.in_ok-marks.ensures.complete p k)
+    (has_op c.add_callers.new.called) added n h

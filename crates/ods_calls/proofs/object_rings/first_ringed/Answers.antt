@@ -17,9 +17,9 @@ pub returns : goal.returns
 returns c =
     let x = design_of c.args.index.now.design.now in
     let os = map node_object c.args.guards.now in
-    let places = place_in c.in_ok-names.names in
+    let places = place_in c.in_ok-places.places in
     let placed : places ≡ (λ (n : Name). place_from 0 n (names-of os)) =
-    fun_ext (λ n. c.in_ok-names.ensures n ∙ ap (λ ns. place_from 0 n ns) (names-same c.args.guards.now)) in
+    fun_ext (λ n. c.in_ok-places.ensures n ∙ ap (λ ns. place_from 0 n ns) (names-same c.args.guards.now)) in
     let edges : c.as_slice-2.result.now ≡ flat_map (guard_edges (λ n. place_from 0 n (names-of os))) (design_calls x) =
     c.as_slice-2.ensures.value ∙ c.in_ok-edges.ensures
     ∙ ap (flat_map (guard_edges places)) (ap (map calls_of) c.as_slice.ensures.value ∙ c.requires.called)

@@ -2,7 +2,6 @@ use Rattle.std.proofs.Common.{◌≡◌, ◌++◌, map, ap, ◌∙◌}
 use Rattle.std.proofs.lemmas.Result.{on_ok_weaker}
 use Rattle.ods_tree.specs.Trees.{design_of}
 use Rattle.ods_index.specs.Walking.{object_of}
-use Rattle.ods_calls.specs.Graphed.{edges_to}
 use Rattle.ods_calls.specs.Spotted.{spot_in}
 use Rattle.ods_calls.specs.Spreading.{direct_calls}
 use Rattle.ods_calls.specs.Starting.{aimed}

@@ -1,10 +1,9 @@
-use Rattle.std.proofs.Common.{rules, ◌≡◌, Bor, List, Option, None, Some, false, ap, sym, subst, ◌∙◌, arith, map, slice_get, ℕ}
+use Rattle.std.proofs.Common.{rules, ◌≡◌, List, Option, None, Some, false, ap, sym, subst, ◌∙◌, arith, map, slice_get, ℕ}
 use Rattle.std.specs.Prelude.{option_map}
 use Rattle.std.specs.List.{list_any}
 use Rattle.ods_tree.specs.Designs.{Object}
 use Rattle.ods_tree.specs.Trees.{design_of}
 use Rattle.ods_tree.specs.Walk.{objects}
-use Rattle.ods_tree.specs.declared.design.Node.{Node}
 use Rattle.design_rules.specs.Broken.{V09Starts}
 use Rattle.design_rules.specs.Lookups.{is_sporadic}
 use Rattle.design_rules.specs.Rings.{thread_objects}

@@ -21,3 +21,11 @@ returns-in-ObjectRing c = rw c.in-ObjectRing.is c.first_ringed_object.ensures
 
 pub returns-in-StartRing : goal.returns-in-StartRing
 returns-in-StartRing c = rw c.in-StartRing.is c.first_ringed_thread.ensures
+
+pub judge_budgets-requires-clause-before : goal.judge_budgets-requires-clause-before
+judge_budgets-requires-clause-before c =
+    let P : Rule → Type 0 = λ r. PassesBefore (design_of c.args.index.now.design.now) (rule_of r) in subst P c.in-Budget.is c.requires.before
+
+pub judge_sizes-requires-clause-before : goal.judge_sizes-requires-clause-before
+judge_sizes-requires-clause-before c =
+    let P : Rule → Type 0 = λ r. PassesBefore (design_of c.args.index.now.design.now) (rule_of r) in subst P c.in-Size.is c.requires.before

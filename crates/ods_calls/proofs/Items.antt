@@ -1,5 +1,6 @@
 -- Items of lists that are made from others.
-use Rattle.std.proofs.Common.{◌≡◌, Bool, true, false, List, [], ◌∷◌, ◌++◌, map, filter, filter_map, flat_map, Option, Some, None, refl, sym, ap}
+use Rattle.std.proofs.Common.{◌≡◌, ◌<◌, ℕ, zero, suc, length, get_or, arith, Bool, true, false, List, [], ◌∷◌, ◌++◌, map, filter, filter_map}
+use Rattle.std.proofs.Common.{flat_map, Option, Some, None, refl, sym, ap}
 use Rattle.std.proofs.Common.{subst, ◌∙◌, inl, inr, ◌⊎◌, if◌then◌else◌}
 use Rattle.std.specs.List.{list_any, cons_option}
 use Rattle.std.proofs.lemmas.Bool.{or_cases, or_left, or_right}
@@ -102,3 +103,9 @@ some-in {A} p (x ∷ xs) h = by (some-in p xs) (or_cases (p x) (list_any p xs) h
     by : (list_any p xs ≡ true → (a : A) × In a xs × (p a ≡ true)) → (p x ≡ true) ⊎ (list_any p xs ≡ true) → (a : A) × In a (x ∷ xs) × (p a ≡ true)
     by rest (inl k) = (x, inl refl, k)
     by rest (inr k) = let r = rest k in (r.0, inr r.1, r.2)
+
+-- what stands at a place of a list
+pub item-in : {A : Type 0} (xs : List A) (i : ℕ) (x : A) → i < length xs → x ≡ get_or xs i x → In x xs
+item-in [] i x less at = absurd (omega (arith, less))
+item-in (y ∷ xs) zero x less at = inl (sym at)
+item-in (y ∷ xs) (suc i) x less at = inr (item-in xs i x (omega (arith, less)) at)

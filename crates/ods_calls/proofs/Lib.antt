@@ -6,7 +6,6 @@ mod RequestExamples
 mod SpacingExamples
 mod StartExamples
 mod StartingExamples
-pub mod BackLaws
 pub mod BodyEdges
 pub mod BudgetSteps
 pub mod CallRings
@@ -32,4 +31,5 @@ pub mod SpotSteps
 pub mod SpreadLaws
 pub mod StartGraph
 pub mod StartPaths
+pub mod StartReach
 pub mod TargetSteps

@@ -30,7 +30,8 @@ use Rattle.ods_calls.proofs.RequestLaws.{counted-quiet, fold-cons}
 use Rattle.ods_index.proofs.Shared.WalkSteps.{own_fields}
 
 -- a test of what a list leads to
-pub any-flat : (p : OpName → Bool) (f : OpName → List OpName) (xs : List OpName) → list_any p (flat_map f xs) ≡ list_any (λ m. list_any p (f m)) xs
+pub any-flat : {A : Type 0} (p : OpName → Bool) (f : A → List OpName) (xs : List A) → list_any p (flat_map f xs)
+    ≡ list_any (λ m. list_any p (f m)) xs
 any-flat p f [] = refl
 any-flat p f (y ∷ xs) = list_any-append p (f y) (flat_map f xs) ∙ ap (λ b. list_any p (f y) || b) (any-flat p f xs)
 

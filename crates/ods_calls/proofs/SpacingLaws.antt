@@ -1,6 +1,6 @@
 -- Threads that start others too often, by what they are said to reach.
 use Rattle.std.proofs.Common.{◌≡◌, ◌<◌, ◌≤◌, ◌+◌, ◌++◌, ℕ, Bool, true, false, List, [], ◌∷◌, None, get_or, arith, refl, ap, sym, ◌∙◌, ◌&&◌}
-use Rattle.std.proofs.Common.{drop, flat_map, length, map}
+use Rattle.std.proofs.Common.{drop, flat_map, inl, inr, length, map}
 use Rattle.std.proofs.lemmas.Bool.{or_parts}
 use Rattle.std.specs.Prelude.{filter_map, max, nat_lt, if◌then◌else◌}
 use Rattle.std.specs.List.{cons_option, list_any}
@@ -15,15 +15,16 @@ use Rattle.design_rules.specs.Lookups.{is_sporadic}
 use Rattle.design_rules.specs.Separations.{spacing}
 use Rattle.ods_calls.specs.Spacings.{greatest_separation, separation_in, spaced}
 use Rattle.ods_calls.specs.Spreading.{reaches}
+use Rattle.ods_calls.proofs.Items.{In}
 
--- the same names make the same be told
-pub spaced-same : (f g : Name → Bool) (from : Object) (ts : List Object) → ((n : Name) → f n ≡ g n) → filter_map (spaced f from) ts
-    ≡ filter_map (spaced g from) ts
+-- the same names of these make the same be told
+pub spaced-same : (f g : Name → Bool) (from : Object) (ts : List Object) → ((t : Object) → In t ts → f t.name ≡ g t.name)
+    → filter_map (spaced f from) ts ≡ filter_map (spaced g from) ts
 spaced-same f g from [] same = refl
 spaced-same f g from (t ∷ ts) same =
     ap (λ b. cons_option (only_if ((is_sporadic t.kind && b) && nat_lt (spacing from) (attribute_or 0 Separation t))
-    (V16 from.name (spacing from) t.name (attribute_or 0 Separation t))) (filter_map (spaced f from) ts)) (same t.name)
-    ∙ ap (λ l. cons_option (spaced g from t) l) (spaced-same f g from ts same)
+    (V16 from.name (spacing from) t.name (attribute_or 0 Separation t))) (filter_map (spaced f from) ts)) (same t (inl refl))
+    ∙ ap (λ l. cons_option (spaced g from t) l) (spaced-same f g from ts (λ k h. same k (inr h)))
 
 max-regroup : (g s r : ℕ) → max (max g s) r ≡ max g (max s r)
 max-regroup g s r = grind arith

@@ -73,6 +73,10 @@ at-aim : (part : Part) (k : OpName) → Aimed k (aimed part k)
 at-aim Threads k = refl
 at-aim Operations k = refl
 
+-- whether an edge leads from one place to another
+abbrev pub there : ℕ → ℕ → ℕ × ℕ → Bool
+there p q e = e.0 == p && e.1 == q
+
 -- edges that leave a place, where there is one
 edge-in : (to : OpName → Option ℕ) (from : Option ℕ) (ks : List OpName) (k : OpName) (p q : ℕ) → from ≡ Some p → In k ks → to k ≡ Some q
     → In (p, q) (edges_from to from ks)
@@ -112,14 +116,11 @@ leads-on x passes a b h =
 
 module _ (x : Design) (place : Spot → Option ℕ) (placed : (s : Spot) → place s ≡ spot_from 0 (spots_of x) s) (target : Name → Bool)
     (os : List Object) (inside : (o : Object) → In o os → In o (thread_objects x)) where
-  abbrev es : List (ℕ × ℕ)
+  abbrev pub es : List (ℕ × ℕ)
   es = start_edges x place target (design_calls x) os
 
   abbrev pub step-of : ℕ → ℕ → Bool
   step-of = is_step (length (spots_of x)) es
-
-  abbrev there : ℕ → ℕ → ℕ × ℕ → Bool
-  there p q e = e.0 == p && e.1 == q
 
   pub stands-at : (s : Spot) (p : ℕ) → place s ≡ Some p → slice_get (spots_of x) p ≡ Some s
   stands-at s p e =
@@ -176,7 +177,7 @@ module _ (x : Design) (place : Spot → Option ℕ) (placed : (s : Spot) → pla
       and_from _ _ (grind (arith, within)) (edge-forth a c p q h e f)
 
   -- an edge is a step between what has these places
-  abbrev Back : ℕ → ℕ → Type 0
+  abbrev pub Back : ℕ → ℕ → Type 0
   Back p q = (a c : Spot) × (place a ≡ Some p) × (place c ≡ Some q) × Leads x target os a c
 
   body-back : (part : Part) (p q : ℕ) → list_any (there p q) (held_edges place part (design_calls x)) ≡ true → Back p q
@@ -219,9 +220,8 @@ module _ (x : Design) (place : Spot → Option ℕ) (placed : (s : Spot) → pla
       by e first second o held (inl i) = one Threads e first second o held i
       by e first second o held (inr i) = one Operations e first second o held i
 
-  pub step-back : (p q : ℕ) → step-of p q ≡ true → Back p q
-  step-back p q h =
-      let edge = (and_parts (nat_lt q (length (spots_of x))) (list_any (there p q) es) h).1 in
+  pub edge-back : (p q : ℕ) → list_any (there p q) es ≡ true → Back p q
+  edge-back p q edge =
       let bodies = held_edges place Threads (design_calls x) ++ held_edges place Operations (design_calls x) in
       by (or_cases (list_any (there p q) bodies) (list_any (there p q) (flat_map (thread_edges x place target) os))
       (sym (list_any-append (there p q) bodies (flat_map (thread_edges x place target) os)) ∙ edge))
@@ -238,6 +238,9 @@ module _ (x : Design) (place : Spot → Option ℕ) (placed : (s : Spot) → pla
           (list_any (there p q) (held_edges place Operations (design_calls x)))
           (sym (list_any-append (there p q) (held_edges place Threads (design_calls x)) (held_edges place Operations (design_calls x))) ∙ i))
       by (inr i) = thread-back p q i
+
+  pub step-back : (p q : ℕ) → step-of p q ≡ true → Back p q
+  step-back p q h = edge-back p q (and_parts (nat_lt q (length (spots_of x))) (list_any (there p q) es) h).1
 
   -- whatever leads on has a place
   pub source-placed : (a c : Spot) → Leads x target os a c → (p : ℕ) × (place a ≡ Some p)

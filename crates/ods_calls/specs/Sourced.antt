@@ -1,19 +1,11 @@
 -- The threads that reach an object, found from what leads to it.
 -- A thread reaches an object of which it calls an operation itself, or where it calls what leads to one.
-use Rattle.std.specs.Prelude.{ℕ, ◌-◌, ◌==◌, Bool, false, ◌||◌, List, [], if◌then◌else◌}
+use Rattle.std.specs.Prelude.{Bool, ◌||◌, List}
 use Rattle.std.specs.List.{list_any}
-use Rattle.seq_tree.specs.Calls.{same_op}
 use Rattle.seq_tree.specs.Names.{Name, same_name}
 use Rattle.seq_tree.specs.declared.tree.OpName.{OpName}
 use Rattle.ods_tree.specs.Designs.{Design, Object}
-use Rattle.ods_calls.specs.Spreading.{body_at, direct_calls, found_all, inner_at, spread}
-use Rattle.ods_calls.specs.declared.callers.Callers.{Callers}
-
--- whether an operation leads to one of an object, by so many calls at most
-abbrev pub leads_at : Callers → ℕ → Name → OpName → Bool
-leads_at t depth name m =
-    if depth == 0 then false
-    else list_any (λ c. same_op c m) (spread (inner_at t.ops) (depth - 1) 0 (found_all [] (body_at t.objects name)))
+use Rattle.ods_calls.specs.Spreading.{direct_calls}
 
 -- whether one of these is an operation of an object, or leads to one
 abbrev pub any_leads : Name → (OpName → Bool) → List OpName → Bool

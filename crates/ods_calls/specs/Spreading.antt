@@ -10,7 +10,7 @@ use Rattle.name_sets.specs.Tables.{at, listed, named}
 use Rattle.name_sets.specs.declared.sets.Ops.{Ops}
 use Rattle.ods_tree.specs.Designs.{Object, Design}
 use Rattle.ods_tree.specs.Flattening.{is_protected}
-use Rattle.design_rules.specs.Rings.{thread_calls, meant_calls}
+use Rattle.design_rules.specs.Rings.{calls_within, meant_calls, terminal_ops, thread_calls}
 use Rattle.ods_index.specs.Calling.{Calls}
 use Rattle.ods_calls.specs.declared.starts.BodyCalls.{BodyCalls}
 use Rattle.ods_calls.specs.declared.starts.Inner.{Inner}
@@ -53,3 +53,10 @@ reaches x from name = list_any (λ c. same_name c.object name) (thread_calls x f
 -- what the thread of an object calls itself
 abbrev pub direct_calls : Design → Object → List OpName
 direct_calls x o = flat_map (meant_calls x o) (option_to_list o.thread)
+
+-- whether an operation is one of an object of this name, and whether a call leads to one through protected operations
+abbrev pub of_object : Name → OpName → Bool
+of_object name c = same_name c.object name
+
+abbrev pub led : Design → Name → OpName → Bool
+led x name c = list_any (of_object name) (calls_within (length (terminal_ops x)) x c)

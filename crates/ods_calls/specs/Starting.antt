@@ -53,6 +53,10 @@ held_place place c = if is_held c then place (Op c.name) else None
 abbrev pub held_edges : (Spot → Option ℕ) → Part → List Calls → List (ℕ × ℕ)
 held_edges place part cs = flat_map (body_edges (held_place place) (λ k. place (aimed part k))) cs
 
+-- those to all that they call
+abbrev pub all_held : (Spot → Option ℕ) → List Calls → List (ℕ × ℕ)
+all_held place cs = held_edges place Threads cs ++ held_edges place Operations cs
+
 -- the place of a thread, where one of its name is sporadic
 abbrev pub source_place : (Spot → Option ℕ) → (Name → Bool) → Object → Option ℕ
 source_place place target o = if target o.name then place (Thread o.name) else None
@@ -66,10 +70,14 @@ thread_edges x place target o =
 -- those of bodies, and then those of threads
 abbrev pub start_edges : Design → (Spot → Option ℕ) → (Name → Bool) → List Calls → List Object → List (ℕ × ℕ)
 start_edges x place target cs os =
-    (held_edges place Threads cs ++ held_edges place Operations cs) ++ flat_map (thread_edges x place target) os
+    all_held place cs ++ flat_map (thread_edges x place target) os
 
 -- the steps of a design
 abbrev pub starts_step : Design → ℕ → ℕ → Bool
 starts_step x =
     is_step (length (spots_of x))
     (start_edges x (spot_from 0 (spots_of x)) (has_target (thread_objects x)) (design_calls x) (thread_objects x))
+
+-- an edge the other way round
+abbrev pub turned : ℕ × ℕ → ℕ × ℕ
+turned e = (e.1, e.0)

@@ -4,10 +4,10 @@ ghost use Rattle.seq_tree.specs.declared.tree.OpName.{OpName as OpTree};
 ghost use Rattle.ods_index.specs.Calling.{calls_of};
 ghost use Rattle.ods_calls.specs.Held.{is_held};
 ghost use Rattle.ods_calls.specs.Requested.{object_caller, object_callers, op_caller, op_callers};
-ghost use Rattle.ods_calls.specs.Spreading.{body_at, found_all, inner_at, spread};
+ghost use Rattle.ods_calls.specs.Spreading.{body_at, found_all, inner_at};
 ghost use Rattle.seq_cost.specs.Different.{call_of};
 
-use crate::starts::{BodyCalls, Inner, find_all, follow_all, search};
+use crate::starts::{BodyCalls, Inner, find_all, follow_all};
 use name_sets::Ops;
 use ods_index::{OpCalls, is_protected};
 use seq_cost::Call;
@@ -107,22 +107,6 @@ impl<'a> Callers<'a> {
                 find_all(alloc, ops, &mut seen, &mut found)?;
                 Ok(found)
             }
-        }
-    }
-
-    /// The operations that lead to one of an object, by so many calls before the last one at most, each once.
-    pub(crate) fn leading_to(
-        &self,
-        alloc: Global,
-        depth: usize,
-        object: &Name,
-    ) -> Result<Vec<Call<'a>>, NoMemory>
-        ensures { IfOk result (λ v. map call_of v.items
-            ≡ spread (inner_at self.now.ops) depth 0 (found_all [] (body_at self.now.objects object.now))) }
-    {
-        match self.objects.get(object) {
-            None => search(alloc, &self.ops, depth, &[]),
-            Some(ops) => search(alloc, &self.ops, depth, ops),
         }
     }
 

@@ -33,3 +33,4 @@ pub use separations::first_bad_spacing;
 pub use sizes::first_bad_size;
 pub use sources::first_bad_source;
 pub use start_rings::first_ringed_thread;
+pub use starts::threads_of;

@@ -1,16 +1,19 @@
-ghost use Rattle.std.specs.Prelude.{◌≡◌, filter_map, flat_map, map, nat_lt, is_some};
+ghost use Rattle.std.specs.Prelude.{◌≡◌, filter_map, flat_map, map, nat_lt};
 ghost use Rattle.std.specs.List.{list_any};
-ghost use Rattle.name_sets.specs.Places.{place_in};
 ghost use Rattle.ods_tree.specs.Trees.{design_of};
+ghost use Rattle.design_rules.specs.Rings.{thread_objects};
+ghost use Rattle.design_rules.specs.Rules.{Spacing};
 ghost use Rattle.design_rules.specs.Separations.{bad_separations, spacing};
 ghost use Rattle.ods_index.specs.Indexing.{IsIndex};
-ghost use Rattle.ods_index.specs.Judging.{Tells, head_of};
+ghost use Rattle.ods_index.specs.Judging.{PassesBefore, Tells, head_of};
 ghost use Rattle.ods_calls.specs.Spacings.{greatest_separation, separation_in, spaced};
+ghost use Rattle.ods_calls.specs.Spotted.{marked, spot_in};
 ghost use Rattle.ods_calls.specs.Spreading.{reaches};
+ghost use Rattle.ods_calls.specs.Starting.{Thread};
 ghost use Rattle.ods_index.specs.Walking.{object_of};
 
+use crate::spots::{Spots, is_marked};
 use crate::starts::{Starts, threads_of};
-use name_sets::Places;
 use ods_index::{Broken, Index, attribute_or_0, is_sporadic};
 use ods_tree::{AttrKey, Kind, Node};
 use std::alloc::Global;
@@ -63,12 +66,18 @@ fn any_closer(threads: &[&Node], greatest: u32) -> bool
     false
 }
 
-/// Tells a thread that starts another, of an object that it reaches, more often than its separation allows.
+/// Tells a thread that starts another, which is marked, more often than its separation allows.
 #[tactic(auto, using(ods_index::proofs::Shared::WalkSteps::node_steps))]
-fn target_fits(alloc: Global, from: &Node, reached: &Places<'_>, to: &Node) -> Result<(), Broken>
-    ensures { Tells result (spaced (λ n. is_some (place_in reached.entry.now n)) (object_of from.now) (object_of to.now)) }
+fn target_fits(
+    alloc: Global,
+    from: &Node,
+    spots: &Spots<'_>,
+    reached: &[bool],
+    to: &Node,
+) -> Result<(), Broken>
+    ensures { Tells result (spaced (λ n. marked reached.now (spot_in spots.now (Thread n))) (object_of from.now) (object_of to.now)) }
 {
-    if !is_sporadic(to.kind) || reached.get(&to.name).is_none() {
+    if !is_sporadic(to.kind) || !is_marked(reached, spots.thread(&to.name)) {
         return Ok(());
     }
     let period = spacing(from);
@@ -89,14 +98,15 @@ fn target_fits(alloc: Global, from: &Node, reached: &Places<'_>, to: &Node) -> R
 fn targets_fit(
     alloc: Global,
     from: &Node,
-    reached: &Places<'_>,
+    spots: &Spots<'_>,
+    reached: &[bool],
     threads: &[&Node],
 ) -> Result<(), Broken>
-    ensures { Tells result (head_of
-        (filter_map (spaced (λ n. is_some (place_in reached.entry.now n)) (object_of from.now)) (map (λ t. object_of t.now) threads.now))) }
+    ensures { Tells result (head_of (filter_map (spaced (λ n. marked reached.now (spot_in spots.now (Thread n))) (object_of from.now))
+        (map (λ t. object_of t.now) threads.now))) }
 {
     'threads: for to in threads {
-        target_fits(alloc, from, reached, to)?;
+        target_fits(alloc, from, spots, reached, to)?;
     }
     Ok(())
 }
@@ -110,7 +120,8 @@ fn starter_fits<'a>(
     greatest: u32,
     from: &'a Node,
 ) -> Result<(), Broken>
-    requires { greatest ≡ greatest_separation (map (λ t. object_of t.now) threads.now) }
+    requires greatest { greatest ≡ greatest_separation (map (λ t. object_of t.now) threads.now) }
+    requires all { map (λ t. object_of t.now) threads.now ≡ thread_objects (design_of starts.now.links.now.design.now) }
     ensures { Tells result (head_of
         (filter_map (spaced (reaches (design_of starts.now.links.now.design.now) (object_of from.entry.now)) (object_of from.entry.now))
         (map (λ t. object_of t.now) threads.entry.now))) }
@@ -119,7 +130,7 @@ fn starter_fits<'a>(
         return Ok(());
     }
     let reached = starts.reached(alloc, from)?;
-    targets_fit(alloc, from, &reached, threads)
+    targets_fit(alloc, from, &starts.spots, reached.as_slice(), threads)
 }
 
 /// Tells the first of these threads that starts another more often than its separation allows.
@@ -130,7 +141,8 @@ fn starters_fit<'a>(
     threads: &[&'a Node],
     greatest: u32,
 ) -> Result<(), Broken>
-    requires { greatest ≡ greatest_separation (map (λ t. object_of t.now) threads.now) }
+    requires greatest { greatest ≡ greatest_separation (map (λ t. object_of t.now) threads.now) }
+    requires all { map (λ t. object_of t.now) threads.now ≡ thread_objects (design_of starts.now.links.now.design.now) }
     ensures { Tells result (head_of
         (flat_map (λ f. filter_map (spaced (reaches (design_of starts.now.links.now.design.now) f) f)
         (map (λ t. object_of t.now) threads.entry.now)) (map (λ t. object_of t.now) threads.entry.now))) }
@@ -143,7 +155,8 @@ fn starters_fit<'a>(
 
 /// V16: tells the first thread, and of what it starts the first, that it starts more often than the separation of that allows.
 pub fn first_bad_spacing(alloc: Global, index: &Index<'_>) -> Result<(), Broken>
-    requires { IsIndex index.now }
+    requires indexed { IsIndex index.now }
+    requires before { PassesBefore (design_of index.now.design.now) Spacing }
     ensures { Tells result (head_of (bad_separations (design_of index.entry.now.design.now))) }
 {
     let nodes = threads_of(alloc, index.objects.as_slice())?;
@@ -152,6 +165,6 @@ pub fn first_bad_spacing(alloc: Global, index: &Index<'_>) -> Result<(), Broken>
     if !any_closer(threads, greatest) {
         return Ok(());
     }
-    let starts = Starts::new(alloc, index)?;
+    let starts = Starts::new(alloc, index, threads)?;
     starters_fit(alloc, &starts, threads, greatest)
 }

@@ -1,10 +1,8 @@
-ghost use Rattle.std.specs.Prelude.{◌≡◌, ◌<◌, ◌≤◌, ◌+◌, ◌||◌, ◌&&◌, ◌++◌, ◌∷◌, [], ◌==◌, ℕ, true, None, IfOk, OnOk, filter, filter_map, fold, length};
-ghost use Rattle.std.specs.Prelude.{map, max, min, nat_le, not, option_to_list};
-ghost use Rattle.std.specs.List.{list_any};
-ghost use Rattle.seq_tree.specs.Calls.{same_op};
+ghost use Rattle.std.specs.Prelude.{◌≡◌, ◌<◌, ◌≤◌, ◌+◌, ◌||◌, ◌&&◌, ◌++◌, ◌∷◌, [], ◌==◌, ℕ, true, None, Some, IfOk, OnOk, filter, filter_map, fold};
+ghost use Rattle.std.specs.Prelude.{length};
+ghost use Rattle.std.specs.Prelude.{is_some, map, max, min, nat_le, not, option_to_list};
 ghost use Rattle.seq_tree.specs.Names.{same_name};
 ghost use Rattle.seq_tree.specs.declared.tree.OpName.{OpName as OpTree};
-ghost use Rattle.name_sets.specs.Sets.{has_op};
 ghost use Rattle.ods_tree.specs.Attributes.{attribute};
 ghost use Rattle.ods_tree.specs.Trees.{design_of};
 ghost use Rattle.ods_tree.specs.Walk.{objects, only_if};
@@ -12,14 +10,16 @@ ghost use Rattle.ods_tree.specs.declared.design.AttrKey.TheVariants.{ArrivalJitt
 ghost use Rattle.design_rules.specs.Broken.{V10};
 ghost use Rattle.design_rules.specs.Lookups.{is_sporadic};
 ghost use Rattle.design_rules.specs.Rings.{terminal_ops, thread_objects};
+ghost use Rattle.design_rules.specs.Rules.{Fitting, Source};
 ghost use Rattle.design_rules.specs.Sources.{bad_sources, requests_by, source_count, starts_within};
-ghost use Rattle.ods_index.specs.Calling.{calls_of, design_calls};
 ghost use Rattle.ods_index.specs.Indexing.{IsIndex};
-ghost use Rattle.ods_index.specs.Judging.{Tells, head_of};
+ghost use Rattle.ods_index.specs.Judging.{Passes, PassesBefore, Tells, head_of};
 ghost use Rattle.ods_calls.specs.Reaching.{AreRight, AreShown, reacher_of, thread_of};
 ghost use Rattle.ods_calls.specs.Requested.{Knows, block_count, source_fault};
 ghost use Rattle.ods_calls.specs.Singles.{is_once};
-ghost use Rattle.ods_calls.specs.Sourced.{any_leads, leads_at, reaches_by};
+ghost use Rattle.ods_calls.specs.Sourced.{any_leads, reaches_by};
+ghost use Rattle.ods_calls.specs.Spotted.{marked, spot_in};
+ghost use Rattle.ods_calls.specs.Starting.{Op, Thread};
 ghost use Rattle.ods_calls.specs.Spreading.{reaches};
 ghost use Rattle.ods_index.specs.Walking.{object_of};
 ghost use Rattle.seq_cost.specs.Different.{call_of};
@@ -30,94 +30,70 @@ use crate::keys::any_sporadic;
 use crate::once::Once;
 use crate::reacher::Reacher;
 use crate::requests::{block_requests, counts_within};
+use crate::spots::{Spots, is_marked};
 use crate::starts::{Starts, thread_starts, threads_of};
-use name_sets::{OpTable, Ops, Places};
-use ods_index::{Broken, Index, Links, OpCalls, attribute, is_sporadic};
+use name_sets::OpTable;
+use ods_index::{Broken, Index, Links, attribute, is_sporadic, ops_of};
 use ods_tree::{AttrKey, Node};
+use rings::Graph;
 use seq_cost::Call;
 use seq_tree::{Name, NoMemory};
 use std::alloc::Global;
 
-/// A set of operations.
-fn set_of<'a>(alloc: Global, ops: &[Call<'a>]) -> Result<Ops<'a>, NoMemory>
-    ensures { IfOk result (λ s. (m : OpTree) → has_op s m ≡ list_any (λ c. same_op c m) (map call_of ops.entry.now)) }
+/// Whether an operation is one of an object, or is marked.
+fn leads(target: &Name, leading: &[bool], spots: &Spots<'_>, op: &Call<'_>) -> bool
+    ensures { result ≡ (same_name (call_of op.now).object target.now || marked leading.now (spot_in spots.now (Op (call_of op.now)))) }
 {
-    let mut set = Ops::new(alloc);
-    'ops: for op in ops {
-        set.add(alloc, op.object, op.op)?;
-    }
-    Ok(set)
-}
-
-/// The operations that lead to those of an object, by so many calls at most.
-fn leading_to<'a>(
-    alloc: Global,
-    callers: &Callers<'a>,
-    depth: usize,
-    target: &Name,
-) -> Result<Ops<'a>, NoMemory>
-    ensures { IfOk result (λ s. (m : OpTree) → has_op s m ≡ leads_at callers.now depth target.now m) }
-{
-    if depth == 0 {
-        return Ok(Ops::new(alloc));
-    }
-    let found = callers.leading_to(alloc, depth - 1, target)?;
-    set_of(alloc, found.as_slice())
-}
-
-/// Whether an operation is one of an object, or leads to one.
-fn leads<'a>(target: &Name, leading: &Ops<'a>, op: &Call<'a>) -> bool
-    ensures { result ≡ (same_name (call_of op.now).object target.now || has_op leading.now (call_of op.now)) }
-{
-    op.object.bytes() == target.bytes() || leading.has(op.object, op.op)
+    op.object.bytes() == target.bytes() || is_marked(leading, spots.op(op))
 }
 
 /// Whether one of these does.
-fn any_leads<'a>(target: &Name, leading: &Ops<'a>, ops: &[Call<'a>]) -> bool
-    ensures { result ≡ any_leads target.now (has_op leading.now) (map call_of ops.now) }
+fn any_leads(target: &Name, leading: &[bool], spots: &Spots<'_>, ops: &[Call<'_>]) -> bool
+    ensures { result ≡ any_leads target.now (λ m. marked leading.now (spot_in spots.now (Op m))) (map call_of ops.now) }
 {
     'ops: for op in ops {
-        if leads(target, leading, op) {
+        if leads(target, leading, spots, op) {
             return true;
         }
     }
     false
 }
 
-/// Adds a thread, where it reaches an object.
+/// Adds a thread, where it reaches an object, by the marks of what leads to it.
 fn add_reacher<'a>(
     alloc: Global,
-    links: &Links<'a>,
+    starts: &Starts<'_, 'a>,
     target: &Name,
-    leading: &Ops<'a>,
+    leading: &[bool],
     thread: &'a Node,
     into: &mut Vec<Reacher<'a>>,
 ) -> Result<(), NoMemory>
     ensures { OnOk result (map reacher_of into.new.items ≡ map reacher_of into.old.items
-        ++ filter (reaches_by (design_of links.now.design.now) target.now (has_op leading.now)) (object_of thread.entry.now ∷ [])) }
+        ++ filter (reaches_by (design_of starts.now.links.now.design.now) target.now
+        (λ m. marked leading.now (spot_in starts.now.spots (Op m)))) (object_of thread.entry.now ∷ [])) }
 {
-    let calls = thread_starts(alloc, links, thread)?;
-    if !any_leads(target, leading, calls.as_slice()) {
+    let calls = thread_starts(alloc, starts.links, thread)?;
+    if !any_leads(target, leading, &starts.spots, calls.as_slice()) {
         return Ok(());
     }
     into.push(Reacher::new(alloc, thread)?)?;
     Ok(())
 }
 
-/// The threads among these that reach an object.
+/// The threads among these that reach an object, by the marks of what leads to it.
 fn reachers_by<'a>(
     alloc: Global,
-    links: &Links<'a>,
+    starts: &Starts<'_, 'a>,
     target: &Name,
-    leading: &Ops<'a>,
+    leading: &[bool],
     threads: &[&'a Node],
 ) -> Result<Vec<Reacher<'a>>, NoMemory>
-    ensures { IfOk result (λ v. map reacher_of v.items
-        ≡ filter (reaches_by (design_of links.now.design.now) target.now (has_op leading.now)) (map thread_of threads.entry.now)) }
+    ensures { IfOk result (λ v. map reacher_of v.items ≡ filter (reaches_by (design_of starts.now.links.now.design.now) target.now
+        (λ m. marked leading.now (spot_in starts.now.spots (Op m)))) (map thread_of threads.entry.now)) }
 {
     let mut reachers = Vec::new(alloc);
     'threads: for thread in threads {
-        add_reacher(alloc, links, target, leading, thread, &mut reachers)?;
+        add_reacher(alloc, starts, target, leading, thread, &mut reachers)?;
     }
     Ok(reachers)
 }
@@ -202,7 +178,7 @@ fn counts_fit(alloc: Global, node: &Node, sources: u32, starts: u32) -> Result<(
 struct Shown<'k, 'a> {
     starts: Starts<'k, 'a>,
     threads: Vec<&'a Node>,
-    reached: Places<'a>,
+    reached: Vec<bool>,
     once: Once<'a>,
 }
 
@@ -216,10 +192,11 @@ impl<'k, 'a> Shown<'k, 'a> {
         requires indexed { IsIndex index.now }
         requires threads { map thread_of threads.items ≡ thread_objects (design_of index.now.design.now) }
         requires few { length (objects (design_of index.now.design.now)) < 4294967296 }
+        requires fits { Passes (design_of index.now.design.now) Fitting }
         ensures same { IfOk result (λ s. s.starts.links.now.design.now ≡ index.entry.now.design.now) }
         ensures right { IfOk result AreShown }
     {
-        let starts = Starts::new(alloc, index)?;
+        let starts = Starts::new(alloc, index, threads.as_slice())?;
         let reached = starts.reached_by_any(alloc, threads.as_slice())?;
         let calls = index.calls.as_slice();
         let once = Once::new(alloc, starts.links, calls, threads.as_slice())?;
@@ -239,16 +216,29 @@ impl<'k, 'a> Shown<'k, 'a> {
         outside == 0 && self.once.has(&node.name)
     }
 
-    /// Whether an object shows at once that it has one source, and that no path requests it twice.
+    /// Whether an object, which stands at this place, shows at once that it has one source, and that no path requests it twice.
+    #[tactic(auto, using(ods_index::proofs::Shared::WalkSteps::node_steps))]
+    fn is_fine_at(&self, node: &Node, place: usize) -> bool
+        requires shown { AreShown self.now }
+        requires at { spot_in self.now.starts.spots (Thread (object_of node.now).name) ≡ Some place }
+        ensures { result ≡ true → source_fault (design_of self.now.starts.links.now.design.now) (object_of node.now) ≡ None }
+    {
+        let outside = outside_count(node);
+        if is_marked(self.reached.as_slice(), Some(place)) {
+            return self.is_alone(node, outside);
+        }
+        outside == 1
+    }
+
+    /// Whether that shows of an object, where it has a place.
     #[tactic(auto, using(ods_index::proofs::Shared::WalkSteps::node_steps))]
     fn is_fine(&self, node: &Node) -> bool
         requires { AreShown self.now }
         ensures { result ≡ true → source_fault (design_of self.now.starts.links.now.design.now) (object_of node.now) ≡ None }
     {
-        let outside = outside_count(node);
-        match self.reached.get(&node.name) {
-            None => outside == 1,
-            Some(_) => self.is_alone(node, outside),
+        match self.starts.spots.thread(&node.name) {
+            None => false,
+            Some(place) => self.is_fine_at(node, place),
         }
     }
 
@@ -285,6 +275,8 @@ struct Requests<'k, 'a> {
     shown: Shown<'k, 'a>,
     bodies: Bodies<'k, 'a>,
     callers: Callers<'a>,
+    back: Graph,
+    depth: usize,
 }
 
 impl<'k, 'a> Requests<'k, 'a> {
@@ -292,35 +284,49 @@ impl<'k, 'a> Requests<'k, 'a> {
     fn new(
         alloc: Global,
         shown: Shown<'k, 'a>,
-        calls: &'k [OpCalls<'a>],
+        index: &'k Index<'a>,
     ) -> Result<Requests<'k, 'a>, NoMemory>
+        requires indexed { IsIndex index.now }
         requires shown { AreShown shown }
-        requires called { map calls_of calls.now ≡ design_calls (design_of shown.starts.links.now.design.now) }
+        requires same { shown.starts.links.now.design.now ≡ index.now.design.now }
         ensures same { IfOk result (λ r. r.shown.starts.links.now.design.now ≡ shown.entry.starts.links.now.design.now) }
         ensures right { IfOk result AreRight }
     {
+        let calls = index.calls.as_slice();
         let bodies = table_of(alloc, calls)?;
         let callers = Callers::of_bodies(alloc, calls)?;
+        let back = shown.starts.turned(alloc, calls)?;
+        let ops = ops_of(alloc, index.objects.as_slice())?;
+        let depth = ops.len();
         Ok(Requests {
             shown,
             bodies,
             callers,
+            back,
+            depth,
         })
     }
 
-    /// The threads that reach an object, in order.
-    fn reachers_of(&self, alloc: Global, name: &Name) -> Result<Vec<Reacher<'a>>, NoMemory>
-        requires { AreRight self.now }
+    /// The threads that reach an object, which stands at this place, in order.
+    fn reachers_of(
+        &self,
+        alloc: Global,
+        name: &Name,
+        place: usize,
+    ) -> Result<Vec<Reacher<'a>>, NoMemory>
+        requires right { AreRight self.now }
+        requires at { spot_in self.now.shown.starts.spots (Thread name.now) ≡ Some place }
         ensures { IfOk result (λ v. map reacher_of v.items
             ≡ filter (λ o. reaches (design_of self.now.shown.starts.links.now.design.now) o name.now)
             (thread_objects (design_of self.now.shown.starts.links.now.design.now))) }
     {
-        let leading = leading_to(alloc, &self.callers, self.shown.starts.depth, name)?;
+        let target = [place];
+        let leading = self.back.reached(alloc, &target)?;
         reachers_by(
             alloc,
-            self.shown.starts.links,
+            &self.shown.starts,
             name,
-            &leading,
+            leading.as_slice(),
             self.shown.threads.as_slice(),
         )
     }
@@ -353,25 +359,19 @@ impl<'k, 'a> Requests<'k, 'a> {
             (map reacher_of reachers.entry.now)))) }
     {
         let links = self.shown.starts.links;
-        let known = counts_within(
-            alloc,
-            links,
-            &self.callers,
-            &self.bodies,
-            self.shown.starts.depth,
-            name,
-        )?;
+        let known = counts_within(alloc, links, &self.callers, &self.bodies, self.depth, name)?;
         most_requests(alloc, links, name, &known, reachers)
     }
 
-    /// Tells an object that is sporadic and whose sources are wrong, by counting them.
+    /// Tells an object that is sporadic, stands at this place and whose sources are wrong, by counting them.
     #[tactic(auto, using(ods_index::proofs::Shared::WalkSteps::node_steps))]
-    fn counted_fits(&self, alloc: Global, node: &Node) -> Result<(), Broken>
+    fn counted_fits(&self, alloc: Global, node: &Node, place: usize) -> Result<(), Broken>
         requires right { AreRight self.now }
+        requires at { spot_in self.now.shown.starts.spots (Thread (object_of node.now).name) ≡ Some place }
         requires sporadic { is_sporadic (object_of node.now).kind ≡ true }
         ensures { Tells result (source_fault (design_of self.now.shown.starts.links.now.design.now) (object_of node.now)) }
     {
-        let reachers = self.reachers_of(alloc, &node.name)?;
+        let reachers = self.reachers_of(alloc, &node.name, place)?;
         let sources = self.source_count(node, reachers.as_slice());
         let starts = self.start_count_by(alloc, &node.name, reachers.as_slice())?;
         counts_fit(alloc, node, sources, starts)
@@ -380,7 +380,8 @@ impl<'k, 'a> Requests<'k, 'a> {
     /// Tells an object whose sources are wrong.
     #[tactic(auto, using(ods_index::proofs::Shared::WalkSteps::node_steps))]
     fn target_fits(&self, alloc: Global, node: &Node) -> Result<(), Broken>
-        requires { AreRight self.now }
+        requires right { AreRight self.now }
+        requires stands { is_some (spot_in self.now.shown.starts.spots (Thread (object_of node.now).name)) ≡ true }
         ensures { Tells result (source_fault (design_of self.now.shown.starts.links.now.design.now) (object_of node.now)) }
     {
         if !is_sporadic(node.kind) {
@@ -389,13 +390,17 @@ impl<'k, 'a> Requests<'k, 'a> {
         if self.shown.is_fine(node) {
             return Ok(());
         }
-        self.counted_fits(alloc, node)
+        match self.shown.starts.spots.thread(&node.name) {
+            None => Ok(()),
+            Some(place) => self.counted_fits(alloc, node, place),
+        }
     }
 
     /// Tells the first object of these whose sources are wrong.
     #[tactic(auto, using(ods_index::proofs::Shared::TellSteps::tell_steps))]
     fn targets_fit(&self, alloc: Global, threads: &[&'a Node]) -> Result<(), Broken>
-        requires { AreRight self.now }
+        requires right { AreRight self.now }
+        requires all { map thread_of threads.now ≡ thread_objects (design_of self.now.shown.starts.links.now.design.now) }
         ensures { Tells result
             (head_of (filter_map (source_fault (design_of self.now.shown.starts.links.now.design.now)) (map thread_of threads.now))) }
     {
@@ -410,6 +415,7 @@ impl<'k, 'a> Requests<'k, 'a> {
 pub fn first_bad_source(alloc: Global, index: &Index<'_>) -> Result<(), Broken>
     requires indexed { IsIndex index.now }
     requires few { length (objects (design_of index.now.design.now)) < 4294967296 }
+    requires before { PassesBefore (design_of index.now.design.now) Source }
     ensures { Tells result (head_of (bad_sources (design_of index.entry.now.design.now))) }
 {
     let threads = threads_of(alloc, index.objects.as_slice())?;
@@ -420,6 +426,6 @@ pub fn first_bad_source(alloc: Global, index: &Index<'_>) -> Result<(), Broken>
     if shown.all_right() {
         return Ok(());
     }
-    let requests = Requests::new(alloc, shown, index.calls.as_slice())?;
+    let requests = Requests::new(alloc, shown, index)?;
     requests.targets_fit(alloc, requests.shown.threads.as_slice())
 }

@@ -1,10 +1,10 @@
 ghost use Rattle.std.specs.Prelude.{◌≡◌, ◌∷◌, ◌++◌, [], Some, None, Option, IfOk, OnOk, filter, if◌then◌else◌, map};
 ghost use Rattle.ods_index.specs.Calling.{calls_of};
 ghost use Rattle.ods_index.specs.Nodes.{node_object};
+ghost use Rattle.seq_cost.specs.Different.{call_of};
 ghost use Rattle.ods_calls.specs.Held.{is_held};
-ghost use Rattle.ods_calls.specs.Spotted.{spot_in, spot_of};
-ghost use Rattle.ods_calls.specs.Starting.{Spot as SpotTree, aimed, held_edges, held_place, same_spot, spot_from, spots_among};
-ghost use Rattle.ods_calls.specs.declared.spots.Part.TheVariants.{Operations, Threads};
+ghost use Rattle.ods_calls.specs.Spotted.{marked, spot_in, spot_of};
+ghost use Rattle.ods_calls.specs.Starting.{Spot as SpotTree, aimed, all_held, held_place, same_spot, spot_from, spots_among};
 ghost use Rattle.ods_calls.specs.Starting.{Thread as ThreadSpot, Op as OpSpot};
 
 use crate::edges::{BodyPlaces, edges_of};
@@ -110,6 +110,26 @@ impl<'a> Spots<'a> {
     {
         self.threads.get(name)
     }
+
+    /// The place of an operation, where it has one.
+    pub(crate) fn op(&self, op: &Call<'_>) -> Option<usize>
+        ensures { result ≡ spot_in self.now (OpSpot (call_of op.now)) }
+    {
+        self.ops.get(op.object, op.op)
+    }
+}
+
+/// Whether a place is marked, where there is one.
+pub(crate) fn is_marked(marks: &[bool], place: Option<usize>) -> bool
+    ensures { result ≡ marked marks.now place }
+{
+    match place {
+        None => false,
+        Some(place) => match marks.get(place) {
+            None => false,
+            Some(mark) => *mark,
+        },
+    }
 }
 
 /// To what calls lead.
@@ -162,7 +182,7 @@ pub(crate) fn held_edges<'a>(
     calls: &[OpCalls<'a>],
 ) -> Result<Vec<(usize, usize)>, NoMemory>
     ensures { IfOk result (λ v. v.items
-        ≡ held_edges (spot_in spots.now) Threads (map calls_of calls.now) ++ held_edges (spot_in spots.now) Operations (map calls_of calls.now)) }
+        ≡ all_held (spot_in spots.now) (map calls_of calls.now)) }
 {
     let threads = Aim {
         spots,

@@ -1,26 +1,32 @@
-ghost use Rattle.std.specs.Prelude.{◌≡◌, ◌≤◌, ◌∷◌, ◌++◌, [], Bool, IfOk, OnOk, drop, filter, flat_map, if◌then◌else◌, length, map, option_map};
-ghost use Rattle.std.specs.Prelude.{unwrap_or, is_some};
+ghost use Rattle.std.specs.Prelude.{◌≡◌, ◌≤◌, ◌∷◌, ◌++◌, [], IfOk, OnOk, filter, flat_map, if◌then◌else◌, length, map, option_map};
+ghost use Rattle.std.specs.Prelude.{unwrap_or, get_or, false, ℕ, Some};
 ghost use Rattle.std.specs.List.{list_any};
 ghost use Rattle.seq_tree.specs.Calls.{same_op};
 ghost use Rattle.seq_tree.specs.Names.{Name as NameTree, same_name};
 ghost use Rattle.seq_tree.specs.declared.tree.OpName.{OpName as OpTree};
-ghost use Rattle.name_sets.specs.Places.{place_in};
 ghost use Rattle.ods_tree.specs.Trees.{design_of};
 ghost use Rattle.ods_tree.specs.Walk.{is_terminal};
 ghost use Rattle.design_rules.specs.Lookups.{has_thread};
-ghost use Rattle.design_rules.specs.Rings.{inner_calls, terminal_ops, thread_calls};
-ghost use Rattle.ods_index.specs.Calling.{calls_of};
+ghost use Rattle.design_rules.specs.Rings.{thread_objects};
+ghost use Rattle.design_rules.specs.Rules.{Fitting};
+ghost use Rattle.ods_index.specs.Calling.{calls_of, design_calls};
 ghost use Rattle.ods_index.specs.Indexing.{IsIndex};
-ghost use Rattle.ods_calls.specs.Spreading.{direct_calls, IsSeen, body_at, body_steps, found_all, found_more, inner_at, reaches, spread};
+ghost use Rattle.ods_index.specs.Judging.{Passes};
+ghost use Rattle.ods_index.specs.Nodes.{node_object};
+ghost use Rattle.ods_calls.specs.Spotted.{spot_in};
+ghost use Rattle.ods_calls.specs.Starting.{Spot, Thread, all_held, spot_from, spots_of, turned};
+ghost use Rattle.rings.specs.Graphs.{is_step};
+ghost use Rattle.rings.specs.Reached.{leads};
+ghost use Rattle.ods_calls.specs.Spreading.{direct_calls, IsSeen, body_at, found_all, found_more, inner_at, led, reaches};
 ghost use Rattle.ods_index.specs.Walking.{object_of, standing_of};
 ghost use Rattle.seq_cost.specs.Different.{call_of};
 
-use name_sets::{NameTable, OpTable, Ops, Places};
-use ods_index::{
-    Index, Links, OpCalls, Required, Standing, has_thread, is_protected, is_terminal, meant_calls,
-    ops_of,
-};
+use crate::spots::{Aim, Part, Spots, held_edges, spots_of};
+use call_graph::places_called;
+use name_sets::{NameTable, OpTable, Ops};
+use ods_index::{Index, Links, OpCalls, Required, Standing, has_thread, is_terminal, meant_calls};
 use ods_tree::Node;
+use rings::Graph;
 use seq_cost::Call;
 use seq_tree::{Name, NoMemory};
 use std::alloc::Global;
@@ -149,17 +155,6 @@ pub(crate) fn find_all<'a>(
     Ok(())
 }
 
-/// Operations from a place on.
-fn rest_of<'a>(alloc: Global, ops: &[Call<'a>], from: usize) -> Result<Vec<Call<'a>>, NoMemory>
-    requires { from ≤ length ops.now }
-    ensures { IfOk result (λ v. v.items ≡ drop from ops.entry.now) }
-{
-    let (_, rest) = ops.split_at(from);
-    let mut found = Vec::new(alloc);
-    found.extend_from_slice(rest)?;
-    Ok(found)
-}
-
 /// Adds what an operation calls, where it wasn't found before.
 #[tactic(auto, using(crate::proofs::SpreadLaws::spread_laws))]
 fn follow<'a>(
@@ -199,51 +194,6 @@ pub(crate) fn follow_all<'a>(
     Ok(())
 }
 
-/// These operations and what they lead to through protected ones, in so many levels at most, up to one that finds none.
-pub(crate) fn search<'a>(
-    alloc: Global,
-    inner: &Inner<'a>,
-    depth: usize,
-    starts: &[Call<'a>],
-) -> Result<Vec<Call<'a>>, NoMemory>
-    ensures { IfOk result (λ v. map call_of v.items ≡ spread (inner_at inner.entry.now) depth 0 (found_all [] (map call_of starts.entry.now))) }
-{
-    let mut seen = Ops::new(alloc);
-    let mut found = Vec::new(alloc);
-    find_all(alloc, starts, &mut seen, &mut found)?;
-    let mut from = 0;
-    'levels: for _ in 0..depth {
-        if from == found.len() {
-            return Ok(found);
-        }
-        let level = rest_of(alloc, found.as_slice(), from)?;
-        from = found.len();
-        follow_all(alloc, inner, level.as_slice(), &mut seen, &mut found)?;
-    }
-    Ok(found)
-}
-
-/// Adds what a body calls, where its object is protected.
-fn add_body<'a>(alloc: Global, body: &OpCalls<'a>, inner: &mut Inner<'a>) -> Result<(), NoMemory>
-    ensures { OnOk result ((n : OpTree) → inner_at inner.new n ≡ inner_at inner.old n ++ body_steps n (calls_of body.entry.now)) }
-{
-    if !is_protected(body.kind) {
-        return Ok(());
-    }
-    inner.add(alloc, body.object, body.op, body.meant.as_slice())
-}
-
-/// What those of protected objects of these bodies call.
-fn inner_of<'a>(alloc: Global, calls: &[OpCalls<'a>]) -> Result<Inner<'a>, NoMemory>
-    ensures { IfOk result (λ t. (n : OpTree) → inner_at t n ≡ flat_map (body_steps n) (map calls_of calls.entry.now)) }
-{
-    let mut inner = Inner::new(alloc);
-    'calls: for body in calls {
-        add_body(alloc, body, &mut inner)?;
-    }
-    Ok(inner)
-}
-
 /// Adds an object, where it has a thread and no children.
 fn add_thread<'a>(standing: &Standing<'a>, into: &mut Vec<&'a Node>) -> Result<(), NoMemory>
     ensures { OnOk result (map (λ n. object_of n.now) into.new.items ≡ map (λ n. object_of n.now) into.old.items
@@ -261,10 +211,7 @@ fn add_thread<'a>(standing: &Standing<'a>, into: &mut Vec<&'a Node>) -> Result<(
 }
 
 /// The terminal ones of these objects that have threads, in order.
-pub(crate) fn threads_of<'a>(
-    alloc: Global,
-    objects: &[Standing<'a>],
-) -> Result<Vec<&'a Node>, NoMemory>
+pub fn threads_of<'a>(alloc: Global, objects: &[Standing<'a>]) -> Result<Vec<&'a Node>, NoMemory>
     ensures { IfOk result (λ v. map (λ n. object_of n.now) v.items
         ≡ map (λ s. s.own) (filter (λ s. has_thread s.own.kind) (filter is_terminal (map standing_of objects.entry.now)))) }
 {
@@ -273,17 +220,6 @@ pub(crate) fn threads_of<'a>(
         add_thread(standing, &mut threads)?;
     }
     Ok(threads)
-}
-
-/// A table of the names of the objects of operations.
-fn names_of<'a>(alloc: Global, ops: &[Call<'a>]) -> Result<Places<'a>, NoMemory>
-    ensures { IfOk result (λ t. (n : NameTree) → is_some (place_in t n) ≡ list_any (λ c. same_name c.object n) (map call_of ops.entry.now)) }
-{
-    let mut names = Places::new(alloc);
-    'ops: for op in ops {
-        names.put(op.object, 0)?;
-    }
-    Ok(names)
 }
 
 /// What the thread of an object calls itself.
@@ -336,61 +272,109 @@ fn all_starts<'a>(
     Ok(calls)
 }
 
-/// What threads can start.
+/// Edges the other way round.
+fn turned_edges(alloc: Global, edges: &[(usize, usize)]) -> Result<Vec<(usize, usize)>, NoMemory>
+    ensures { IfOk result (λ v. v.items ≡ map turned edges.now) }
+{
+    let mut turned = Vec::new(alloc);
+    'edges: for edge in edges {
+        turned.push((edge.1, edge.0))?;
+    }
+    Ok(turned)
+}
+
+/// What threads can start: a graph of what the calls of protected operations lead to.
 #[derive(Drop)]
 pub(crate) struct Starts<'k, 'a> {
     pub links: &'k Links<'a>,
-    inner: Inner<'a>,
-    pub depth: usize,
-    ghost leads: { (n : OpTree) → inner_at inner n ≡ inner_calls (design_of links.now.design.now) n },
-    ghost deep: { depth ≡ length (terminal_ops (design_of links.now.design.now)) },
+    pub(crate) spots: Spots<'a>,
+    count: usize,
+    graph: Graph,
+    ghost fits: { Passes (design_of links.now.design.now) Fitting },
+    ghost placed: { (s : Spot) → spot_in spots s ≡ spot_from 0 (spots_of (design_of links.now.design.now)) s },
+    ghost long: { count ≡ length (spots_of (design_of links.now.design.now)) },
+    ghost counted: { graph.count ≡ length (spots_of (design_of links.now.design.now)) },
+    ghost stepped: { (a b : ℕ) → leads graph a b ≡ is_step (length (spots_of (design_of links.now.design.now)))
+        (all_held (spot_in spots) (design_calls (design_of links.now.design.now))) a b },
 }
 
 impl<'k, 'a> Starts<'k, 'a> {
-    /// What the threads of a design can start.
-    pub(crate) fn new(alloc: Global, index: &'k Index<'a>) -> Result<Starts<'k, 'a>, NoMemory>
-        requires { IsIndex index.now }
+    /// What these threads of a design can start.
+    pub(crate) fn new(
+        alloc: Global,
+        index: &'k Index<'a>,
+        threads: &[&'a Node],
+    ) -> Result<Starts<'k, 'a>, NoMemory>
+        requires indexed { IsIndex index.now }
+        requires threads { map node_object threads.now ≡ thread_objects (design_of index.now.design.now) }
+        requires fits { Passes (design_of index.now.design.now) Fitting }
         ensures { IfOk result (λ s. s.links.now.design.now ≡ index.now.design.now) }
     {
-        let inner = inner_of(alloc, index.calls.as_slice())?;
-        let ops = ops_of(alloc, index.objects.as_slice())?;
-        let depth = ops.len();
+        let calls = index.calls.as_slice();
+        let listed = spots_of(alloc, threads, calls)?;
+        let spots = Spots::new(alloc, listed.as_slice())?;
+        let edges = held_edges(alloc, &spots, calls)?;
+        let count = listed.len();
+        let graph = Graph::new(alloc, count, edges.as_slice())?;
         Ok(Starts {
             links: &index.links,
-            inner,
-            depth,
+            spots,
+            count,
+            graph,
         })
     }
 
-    /// The operations that the thread of an object calls, itself or through protected ones, each once.
-    pub(crate) fn calls(&self, alloc: Global, node: &'a Node) -> Result<Vec<Call<'a>>, NoMemory>
-        ensures { IfOk result (λ v. (test : OpTree → Bool) → list_any test (map call_of v.items)
-            ≡ list_any test (thread_calls (design_of self.now.links.now.design.now) (object_of node.entry.now))) }
+    /// The graph the other way round, by what bodies call.
+    pub(crate) fn turned(&self, alloc: Global, calls: &[OpCalls<'a>]) -> Result<Graph, NoMemory>
+        requires { map calls_of calls.now ≡ design_calls (design_of self.now.links.now.design.now) }
+        ensures edges { IfOk result (λ g. (a b : ℕ) → leads g a b ≡ is_step (length (spots_of (design_of self.now.links.now.design.now)))
+            (map turned (all_held (spot_in self.now.spots) (design_calls (design_of self.now.links.now.design.now)))) a b) }
+        ensures count { IfOk result (λ g. g.count ≡ length (spots_of (design_of self.now.links.now.design.now))) }
+    {
+        let edges = held_edges(alloc, &self.spots, calls)?;
+        let turned = turned_edges(alloc, edges.as_slice())?;
+        Graph::new(alloc, self.count, turned.as_slice())
+    }
+
+    /// Marks of the places to which these calls lead.
+    fn led_to(&self, alloc: Global, calls: &[Call<'a>]) -> Result<Vec<bool>, NoMemory>
+        ensures { IfOk result (λ v. (n : NameTree) (p : ℕ) → spot_in self.now.spots (Thread n) ≡ Some p
+            → get_or v.items p false ≡ list_any (led (design_of self.now.links.now.design.now) n) (map call_of calls.entry.now)) }
+    {
+        let spots = &self.spots;
+        let threads = Aim {
+            spots,
+            part: Part::Threads,
+        };
+        let ops = Aim {
+            spots,
+            part: Part::Operations,
+        };
+        let mut starts = places_called(alloc, &threads, calls)?;
+        let more = places_called(alloc, &ops, calls)?;
+        starts.extend_from_slice(more.as_slice())?;
+        self.graph.reached(alloc, starts.as_slice())
+    }
+
+    /// Marks of the places of the threads of whose objects a thread calls operations, itself or through protected ones.
+    pub(crate) fn reached(&self, alloc: Global, node: &'a Node) -> Result<Vec<bool>, NoMemory>
+        ensures { IfOk result (λ v. (n : NameTree) (p : ℕ) → spot_in self.now.spots (Thread n) ≡ Some p
+            → get_or v.items p false ≡ reaches (design_of self.now.links.now.design.now) (object_of node.entry.now) n) }
     {
         let starts = thread_starts(alloc, self.links, node)?;
-        search(alloc, &self.inner, self.depth, starts.as_slice())
+        self.led_to(alloc, starts.as_slice())
     }
 
-    /// A table of the names of the objects of which the thread of an object calls operations, itself or through protected ones.
-    pub(crate) fn reached(&self, alloc: Global, node: &'a Node) -> Result<Places<'a>, NoMemory>
-        ensures { IfOk result (λ t. (n : NameTree) → is_some (place_in t n)
-            ≡ reaches (design_of self.now.links.now.design.now) (object_of node.entry.now) n) }
-    {
-        let found = self.calls(alloc, node)?;
-        names_of(alloc, found.as_slice())
-    }
-
-    /// A table of the names of the objects of which one of these threads calls operations, itself or through protected ones.
+    /// Those of which one of these threads does.
     pub(crate) fn reached_by_any(
         &self,
         alloc: Global,
         threads: &[&'a Node],
-    ) -> Result<Places<'a>, NoMemory>
-        ensures { IfOk result (λ t. (n : NameTree) → is_some (place_in t n)
-            ≡ list_any (λ o. reaches (design_of self.now.links.now.design.now) o n) (map (λ t. object_of t.now) threads.entry.now)) }
+    ) -> Result<Vec<bool>, NoMemory>
+        ensures { IfOk result (λ v. (n : NameTree) (p : ℕ) → spot_in self.now.spots (Thread n) ≡ Some p → get_or v.items p false
+            ≡ list_any (λ o. reaches (design_of self.now.links.now.design.now) o n) (map node_object threads.entry.now)) }
     {
         let starts = all_starts(alloc, self.links, threads)?;
-        let found = search(alloc, &self.inner, self.depth, starts.as_slice())?;
-        names_of(alloc, found.as_slice())
+        self.led_to(alloc, starts.as_slice())
     }
 }

@@ -1,4 +1,4 @@
-use Rattle.std.proofs.Common.{rules, ◌≡◌, ◌∙◌, true, false, Bor, List, filter, map, ap, sym, subst}
+use Rattle.std.proofs.Common.{rules, arith, ◌≡◌, ◌∙◌, true, false, Bor, List, filter, map, ap, sym, subst}
 use Rattle.std.specs.Prelude.{filter_map}
 use Rattle.ods_tree.specs.Designs.{Object}
 use Rattle.ods_tree.specs.Trees.{design_of}
@@ -7,10 +7,9 @@ use Rattle.ods_tree.specs.declared.design.Design as code
 use Rattle.ods_tree.specs.declared.design.Node.{Node}
 use Rattle.design_rules.specs.Lookups.{has_thread}
 use Rattle.design_rules.specs.Rings.{thread_objects}
+use Rattle.design_rules.specs.Rules.{Fitting}
 use Rattle.design_rules.specs.Sources.{bad_sources}
-use Rattle.ods_index.specs.Calling.{calls_of, design_calls}
 use Rattle.ods_index.specs.Judging.{Tells, head_of}
-use Rattle.ods_index.specs.declared.calls.OpCalls.{OpCalls}
 use Rattle.ods_calls.specs.Reaching.{thread_of}
 use Rattle.ods_calls.specs.Requested.{source_fault}
 use Rattle.ods_index.specs.Walking.{standing_of}
@@ -40,18 +39,16 @@ returns-then-all_right c =
     ∙ ap (λ (d : code.Design). filter_map (source_fault (design_of d)) (thread_objects (design_of d))) c.in_ok-shown.ensures.same in
     ap head_of (sym all ∙ c.all_right.ensures yes)
 
-pub new-requires-2-clause-called : goal.new-requires-2-clause-called
-new-requires-2-clause-called c =
-    ap (λ (bs : List OpCalls). map calls_of bs) c.as_slice-3.ensures.value ∙ c.requires.indexed.called
-    ∙ ap (λ (d : code.Design). design_calls (design_of d)) (sym c.in_ok-shown.ensures.same)
+pub new-requires-clause-fits : goal.new-requires-clause-fits
+new-requires-clause-fits c = c.requires.before Fitting (omega arith)
 
 pub returns : goal.returns
 returns c =
     let x = design_of c.in_ok-requests.requests.shown.starts.links.now.design.now in
     let y = design_of c.args.index.now.design.now in
     let same = c.in_ok-requests.ensures.same ∙ c.in_ok-shown.ensures.same in
-    let all : filter_map (source_fault x) (map thread_of c.as_slice-4.result.now) ≡ bad_sources y =
-    ap (λ (ts : List (Bor Node)). filter_map (source_fault x) (map thread_of ts)) c.as_slice-4.ensures.value
+    let all : filter_map (source_fault x) (map thread_of c.as_slice-3.result.now) ≡ bad_sources y =
+    ap (λ (ts : List (Bor Node)). filter_map (source_fault x) (map thread_of ts)) c.as_slice-3.ensures.value
     ∙ ap (λ (os : List Object). filter_map (source_fault x) os) c.in_ok-requests.ensures.right.shown.threads
     ∙ ap (λ (d : code.Design). filter_map (source_fault (design_of d)) (thread_objects (design_of d))) same in
     subst (λ w. Tells c.targets_fit.result (head_of w)) all c.targets_fit.ensures

@@ -13,6 +13,14 @@ pub first_ringed_thread-requires-clause-before : goal.first_ringed_thread-requir
 first_ringed_thread-requires-clause-before c =
     let P : Rule → Type 0 = λ r. PassesBefore (design_of c.args.index.now.design.now) (rule_of r) in subst P c.in-StartRing.is c.requires.before
 
+pub first_bad_source-requires-clause-before : goal.first_bad_source-requires-clause-before
+first_bad_source-requires-clause-before c =
+    let P : Rule → Type 0 = λ r. PassesBefore (design_of c.args.index.now.design.now) (rule_of r) in subst P c.in-Source.is c.requires.before
+
+pub first_bad_spacing-requires-clause-before : goal.first_bad_spacing-requires-clause-before
+first_bad_spacing-requires-clause-before c =
+    let P : Rule → Type 0 = λ r. PassesBefore (design_of c.args.index.now.design.now) (rule_of r) in subst P c.in-Spacing.is c.requires.before
+
 pub returns-in-CallRing : goal.returns-in-CallRing
 returns-in-CallRing c = rw c.in-CallRing.is c.first_ringed_op.ensures
 

@@ -4,11 +4,17 @@ use Rattle.ods_tree.specs.declared.design.Node.{out-Node}
 use Rattle.design_rules.specs.Rings.{thread_objects}
 use Rattle.ods_index.specs.Judging.{Tells}
 use Rattle.ods_calls.specs.Reaching.{reacher_of}
+use Rattle.ods_calls.specs.Spotted.{spot_in}
 use Rattle.ods_calls.specs.Spreading.{reaches}
+use Rattle.ods_calls.specs.Starting.{Thread}
 use Rattle.ods_index.specs.Walking.{object_of}
 use Rattle.ods_calls.specs.declared.reacher.Reacher.{Reacher}
 use Rattle.ods_calls.proofs.SourceLaws.{fault-counted, own-name, start-counted}
 use Rattle.ods_calls.proofs.sources.Requests.counted_fits.Goals as goal
+
+pub reachers_of-requires-clause-at : goal.reachers_of-requires-clause-at
+reachers_of-requires-clause-at c =
+    ap (λ n. spot_in c.args.self.now.shown.starts.spots (Thread n)) (own-name c.args.node.now) ∙ c.requires.at
 
 pub source_count-sources-requires-clause-all : goal.source_count-sources-requires-clause-all
 source_count-sources-requires-clause-all c =

@@ -22,14 +22,15 @@ returns-clause-right c =
     record {
       threads = threads;
       reached =
-          λ n. c.in_ok-reached.ensures n ∙ ap (λ (ts : List (Bor Node)). list_any (λ o. reaches x o n) (map thread_of ts)) c.as_slice.ensures.value
+          λ n p at. c.in_ok-reached.ensures n p at
+          ∙ ap (λ (ts : List (Bor Node)). list_any (λ o. reaches x o n) (map thread_of ts)) c.as_slice-2.ensures.value
           ∙ ap (λ (os : List Object). list_any (λ o. reaches x o n) os) threads;
       once =
           λ n h. subst (λ (os : List Object). fold max 0 (map (requests_by x n) os) ≤ 1)
-          (ap (λ (ts : List (Bor Node)). map thread_of ts) c.as_slice-2.ensures.value ∙ threads) (c.in_ok-once.ensures.starts n h);
+          (ap (λ (ts : List (Bor Node)). map thread_of ts) c.as_slice-3.ensures.value ∙ threads) (c.in_ok-once.ensures.starts n h);
       alone =
           λ n h. subst (λ (os : List Object). length (filter (λ o. reaches x o n) os) ≤ 1)
-          (ap (λ (ts : List (Bor Node)). map thread_of ts) c.as_slice-2.ensures.value ∙ threads) (c.in_ok-once.ensures.sources n h);
+          (ap (λ (ts : List (Bor Node)). map thread_of ts) c.as_slice-3.ensures.value ∙ threads) (c.in_ok-once.ensures.sources n h);
       few =
           subst (λ (d : code.Design). length (thread_objects (design_of d)) < 4294967295) (sym c.in_ok-starts.ensures)
           (few-threads (design_of c.args.index.now.design.now) c.requires.few);

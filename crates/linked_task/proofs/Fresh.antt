@@ -4,11 +4,10 @@ use Rattle.std.specs.Prelude.{vec_capacity}
 use Rattle.std.proofs.lemmas.List.{length-append, length-map}
 use Rattle.std.proofs.lemmas.Option.{same_Some}
 use Rattle.seq_tree.specs.declared.tree.Datum.{Datum}
-use Rattle.seq_tree.specs.declared.tree.Param.{Param}
 use Rattle.ada_tree.specs.Trees.{unit_of}
 use Rattle.machine.specs.Pieces as pieces
 use Rattle.machine.specs.Releases.{parameter}
-use Rattle.machine.specs.Systems.{System, ReleasePattern, Periodic, Requested, request_params}
+use Rattle.machine.specs.Systems.{System, request_params}
 use Rattle.law_flat_code.specs.Codes.{TaskStands}
 use Rattle.linked.specs.Slots.{vars_at}
 use Rattle.linker.specs.Programs.{AreLinked, datum_names, param_names, task_part}
@@ -17,7 +16,6 @@ use Rattle.linker.specs.Standing.{Has, lists_of}
 use Rattle.linker.specs.declared.code.Ins.TheVariants as ins
 use Rattle.linker.specs.declared.program.LinkedUnits.{LinkedUnits}
 use Rattle.linker.proofs.Shared.Starts.{task_stands}
-use Rattle.task_runtime.specs.Effort as effort
 use Rattle.task_runtime.specs.Written as written
 use Rattle.task_runtime.specs.Written.{block_of_thread, data_names, reserve, system_of, thread_of, timing_of}
 use Rattle.task_runtime.specs.declared.thread.Thread.{Thread}
@@ -31,16 +29,10 @@ use Rattle.linked_task.specs.declared.stack.Stack.{Stack}
 use Rattle.linked_task.proofs.Calls.{system_is}
 use Rattle.linked_task.proofs.Entries.{begins_amid, begins_left, begins_vars, slots_stacked}
 
-pub same_params : (r : ReleasePattern) → request_params r ≡ effort.request_params r
-same_params (Periodic offset period) = refl
-same_params (Requested op ceiling separation jitter external) = refl
-
 -- how many names a task's block knows
 names_count : (th : Thread) → length (task_part (thread_of th)).names ≡ length (written.param_names th) + length th.«data».now
 names_count th =
     length-append (param_names (request_params (timing_of th.timing))) (datum_names th.«data».now)
-    ∙ ap (λ k. k + length (datum_names th.«data».now)) (length-map (request_params (timing_of th.timing)) (λ (q : Param). q.name)
-    ∙ ap length (same_params (timing_of th.timing)) ∙ sym (length-map (effort.request_params (timing_of th.timing)) (λ (q : Param). q.name)))
     ∙ ap (λ k. length (written.param_names th) + k) (length-map th.«data».now (λ (d : Datum). d.name))
 
 module _ (c : LinkedUnits) (s : Stack) (works : CanWork s.thread) (linked : AreLinked (map unit_of s.thread.units.now) c)

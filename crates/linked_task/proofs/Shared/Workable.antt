@@ -19,11 +19,10 @@ use Rattle.machine.specs.Systems.{System, callee}
 use Rattle.linker.specs.Callees.{OpBody}
 use Rattle.linker.specs.Programs.{datum_names, op_part, task_part}
 use Rattle.linker.specs.Programs as part
-use Rattle.task_runtime.specs.Written.{CanRun, block_of_thread, data_names, param_names, system_of, thread_of, timing_of}
+use Rattle.task_runtime.specs.Written.{CanRun, block_of_thread, data_names, param_names, system_of, thread_of}
 use Rattle.task_runtime.specs.declared.thread.Thread.{Thread}
 use Rattle.task_runtime.proofs.Shared.Runnable.{or_none}
 use Rattle.linked_task.specs.Sounds.{CanWork, FullBlock, FullBranches, FullStatement, IsBodyOf, IsFull, IsTidy}
-use Rattle.linked_task.proofs.Fresh.{same_params}
 
 no_true : false ≡ true → ⊥
 no_true h = cc
@@ -83,9 +82,7 @@ op_distinct b heads h =
 
 -- the names of a task's block
 pub task_distinct : (t : Thread) → CanRun t → are_distinct (task_part (thread_of t)).names ≡ true
-task_distinct t runs =
-    ap (λ ps. are_distinct (part.param_names ps ++ data_names t)) (same_params (timing_of t.timing))
-    ∙ distinct_swapped (data_names t) (param_names t) runs.distinct
+task_distinct t runs = distinct_swapped (data_names t) (param_names t) runs.distinct
 
 -- what two parts of a body have no fault in
 counted : (n m : ℕ) → fault_if (not (n == m)) fault.Count ≡ None → n ≡ m

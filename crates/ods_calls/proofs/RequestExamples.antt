@@ -10,8 +10,7 @@ use Rattle.ods_tree.specs.declared.design.Kind.TheVariants.{Protected}
 use Rattle.design_rules.specs.Broken.{V10}
 use Rattle.ods_calls.specs.Requested.{AreDue, Knows, changes, greatest_count, held_count, held_named, object_callers, op_callers, source_fault}
 use Rattle.ods_index.specs.Calling.{Calls, body_calls}
-use Rattle.ods_calls.specs.Sourced.{leads_at, reaches_by}
-use Rattle.ods_calls.specs.declared.callers.Callers.{Callers}
+use Rattle.ods_calls.specs.Sourced.{reaches_by}
 use Rattle.ods_calls.proofs.SmallParts.{calls_set, keeper, outer, put, put_body, set, small}
 
 abbrev body_with : List OpName → Calls
@@ -82,9 +81,6 @@ led_to = refl
 
 not_reached : reaches_by (small outer) (codes "s") (λ m. false) asker ≡ false
 not_reached = refl
-
-no_levels : (t : Callers) → leads_at t 0 (codes "q") put ≡ false
-no_levels t = refl
 
 from_outside : source_fault (small outer) outer ≡ None
 from_outside = refl

@@ -7,7 +7,7 @@ use Rattle.name_sets.specs.declared.sets.Ops.{Ops}
 use Rattle.ods_index.specs.Calling.{Calls}
 use Rattle.ods_tree.specs.declared.design.Kind.{Kind}
 use Rattle.ods_tree.specs.declared.design.Kind.TheVariants.{Cyclic, Protected}
-use Rattle.ods_calls.specs.Spreading.{IsSeen, body_steps, found_all, found_more, reaches, spread}
+use Rattle.ods_calls.specs.Spreading.{IsSeen, body_steps, found_all, found_more, led, of_object, reaches, spread}
 use Rattle.ods_calls.proofs.SmallParts.{caller, calls_set, set, small}
 
 abbrev get : OpName
@@ -62,6 +62,19 @@ body_of_other_name = refl
 
 body_of_other_kind : body_steps (record { object = codes "a"; op = codes "do" }) (body_in Cyclic) ≡ []
 body_of_other_kind = refl
+
+-- a call leads to its own object, where that is of this name
+of_its_object : of_object (codes "q") set ≡ true
+of_its_object = refl
+
+of_no_other : of_object (codes "a") set ≡ false
+of_no_other = refl
+
+led_by_itself : led (small (caller [])) (codes "q") set ≡ true
+led_by_itself = refl
+
+led_nowhere : led (small (caller [])) (codes "a") set ≡ false
+led_nowhere = refl
 
 reached_by_call : reaches (small (caller (set ∷ []))) (caller (set ∷ [])) (codes "q") ≡ true
 reached_by_call = refl

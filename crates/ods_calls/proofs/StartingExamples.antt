@@ -12,8 +12,8 @@ use Rattle.ods_tree.specs.declared.design.Kind.TheVariants.{Passive, Protected}
 use Rattle.ods_tree.proofs.Shared.Short.{block, call, cyc, pas, pro, several, spo}
 use Rattle.ods_index.specs.Calling.{Calls, body_calls}
 use Rattle.ods_calls.specs.Starting.{Op, Spot, Thread, aimed, held_edges, held_place, same_spot, source_place, spot_from, spots_among, spots_of}
-use Rattle.ods_calls.specs.Starting.{start_edges, starts_step, thread_edges}
-use Rattle.ods_calls.specs.Spotted.{spot_in}
+use Rattle.ods_calls.specs.Starting.{all_held, start_edges, starts_step, thread_edges, turned}
+use Rattle.ods_calls.specs.Spotted.{marked, spot_in}
 use Rattle.ods_calls.specs.declared.spots.Part.TheVariants.{Threads, Operations}
 use Rattle.ods_calls.specs.declared.spots.Spots.{Spots}
 
@@ -131,3 +131,23 @@ kept_thread t n is = is
 
 kept_op : (t : Spots) (n : OpName) → at t.ops n ≡ None → spot_in t (Op n) ≡ None
 kept_op t n none = none
+
+-- a place that is marked, one that isn't, and none
+mark_at : marked (false ∷ true ∷ []) (Some 1) ≡ true
+mark_at = refl
+
+no_mark_at : marked (false ∷ true ∷ []) (Some 0) ≡ false
+no_mark_at = refl
+
+mark_nowhere : marked (true ∷ []) None ≡ false
+mark_nowhere = refl
+
+-- all edges of a body, and the other way round
+edges_of_all : all_held place (body_of Protected ∷ []) ≡ (2, 1) ∷ []
+edges_of_all = refl
+
+edges_of_plain : all_held place (body_of Passive ∷ []) ≡ []
+edges_of_plain = refl
+
+edge_back : turned (2, 1) ≡ (1, 2)
+edge_back = refl

@@ -11,6 +11,7 @@ pub mod BudgetSteps
 pub mod CallRings
 pub mod CalledLaws
 pub mod FilterSteps
+pub mod FoundLaws
 pub mod Items
 pub mod KeptCalls
 pub mod KeySteps
@@ -28,7 +29,6 @@ pub mod SmallParts
 pub mod SourceLaws
 pub mod SpacingLaws
 pub mod SpotSteps
-pub mod SpreadLaws
 pub mod StartGraph
 pub mod StartPaths
 pub mod StartReach

@@ -31,8 +31,7 @@ use Rattle.ods_calls.proofs.Items.{In, any-in, from-filter, in-filter, in-flat, 
 use Rattle.ods_calls.specs.Spreading.{found_all}
 use Rattle.ods_index.proofs.Shared.AccountSteps.{each-among}
 use Rattle.seq_cost.proofs.Shared.CutCosts.{cap-called}
-use Rattle.ods_calls.proofs.SpreadLaws as spread
-use Rattle.ods_calls.proofs.SpreadLaws.{any-true, grown-all}
+use Rattle.ods_calls.proofs.FoundLaws.{all-come}
 
 cut-twice : (n k : ℕ) → n ≡ min 2 k → min 2 n ≡ min 2 k
 cut-twice n k e = grind (arith, e)
@@ -181,12 +180,7 @@ in-among n xs h = any-in (λ c. same_op c n) n xs h (same_op-refl n)
 
 -- what is looked up is found
 found-among : (n : OpName) (ops : List OpName) → In n ops → Among n (found_all [] ops) ≡ true
-found-among n ops h = any-true (λ c. same_op c n) (found_all [] ops) n ((grown-all [] ops).found n (there ops h)) (same_op-refl n)
-  where
-    there : (xs : List OpName) → In n xs → spread.In n xs
-    there [] k = k
-    there (y ∷ xs) (inl e) = inl e
-    there (y ∷ xs) (inr k) = inr (there xs k)
+found-among n ops h = in-among n (found_all [] ops) (all-come n [] ops h)
 
 no : {A : Type 0} (b : Bool) → b ≡ true → b ≡ false → A
 no b h k = (let z : true ≡ false = sym h ∙ k in absurd (cc))

@@ -4,11 +4,8 @@ use Rattle.std.proofs.Common.{sym, ◌∙◌}
 use Rattle.seq_tree.specs.declared.tree.OpName.{OpName}
 use Rattle.name_sets.specs.Sets.{has_op}
 use Rattle.name_sets.specs.declared.sets.Ops.{Ops}
-use Rattle.ods_index.specs.Calling.{Calls}
-use Rattle.ods_tree.specs.declared.design.Kind.{Kind}
-use Rattle.ods_tree.specs.declared.design.Kind.TheVariants.{Cyclic, Protected}
-use Rattle.ods_calls.specs.Spreading.{IsSeen, body_steps, found_all, found_more, led, of_object, reaches, spread}
-use Rattle.ods_calls.proofs.SmallParts.{caller, calls_set, set, small}
+use Rattle.ods_calls.specs.Spreading.{IsSeen, found_all, found_more, led, of_object, reaches}
+use Rattle.ods_calls.proofs.SmallParts.{caller, set, small}
 
 abbrev get : OpName
 get = record { object = codes "q"; op = codes "get" }
@@ -25,43 +22,12 @@ found_two : found_all [] (set ∷ get ∷ set ∷ []) ≡ set ∷ get ∷ []
 unfolding found_more
 found_two = refl
 
--- what is called is found in one level, and not in none
-spread_one : spread (λ n. get ∷ []) 1 0 (set ∷ []) ≡ set ∷ get ∷ []
-unfolding found_more
-spread_one = refl
-
-spread_none : spread (λ n. get ∷ []) 0 0 (set ∷ []) ≡ set ∷ []
-spread_none = refl
-
--- what was before the place isn't followed again
-spread_after : spread (λ n. get ∷ []) 1 1 (set ∷ []) ≡ set ∷ []
-spread_after = refl
-
 -- a set that has none is that of no operations, and of no others
 seen_none : (s : Ops) → ((n : OpName) → has_op s n ≡ false) → IsSeen s []
 seen_none s none n = none n
 
 seen_some : (s : Ops) → ((n : OpName) → has_op s n ≡ false) → IsSeen s (set ∷ []) → ⊥
 seen_some s none seen = (let z : false ≡ true = sym (none set) ∙ seen set in cc)
-
--- the body of the operation of an object of this kind that calls q.set
-abbrev body_in : Kind → Calls
-body_in kind = record {
-  kind = kind;
-  name = record { object = codes "a"; op = codes "do" };
-  needs = set ∷ [];
-  block = calls_set;
-  meant = set ∷ [];
-}
-
-body_of_name : body_steps (record { object = codes "a"; op = codes "do" }) (body_in Protected) ≡ set ∷ []
-body_of_name = refl
-
-body_of_other_name : body_steps (record { object = codes "a"; op = codes "go" }) (body_in Protected) ≡ []
-body_of_other_name = refl
-
-body_of_other_kind : body_steps (record { object = codes "a"; op = codes "do" }) (body_in Cyclic) ≡ []
-body_of_other_kind = refl
 
 -- a call leads to its own object, where that is of this name
 of_its_object : of_object (codes "q") set ≡ true

@@ -1,7 +1,7 @@
 -- The edges of the graph of starts are the calls of threads and of protected operations, by their places.
 -- So rings of starts between threads are rings between places.
-use Rattle.std.proofs.Common.{◌≡◌, ◌⊎◌, inl, inr, ℕ, zero, suc, ◌≤◌, ◌<◌, ◌+◌, ◌==◌, Bool, true, false, ◌&&◌, ◌||◌, List, [], ◌∷◌, ◌++◌, map}
-use Rattle.std.proofs.Common.{filter_map, flat_map}
+use Rattle.std.proofs.Common.{◌≡◌, ◌⊎◌, inl, inr, ℕ, zero, suc, ◌≤◌, ◌<◌, ◌==◌, Bool, true, false, ◌&&◌, List, [], ◌∷◌, ◌++◌, map, filter_map}
+use Rattle.std.proofs.Common.{flat_map}
 use Rattle.std.proofs.Common.{length, get_or, slice_get, nat_lt, Option, Some, None, refl, sym, ap, subst, ◌∙◌, arith, if◌then◌else◌}
 use Rattle.std.proofs.Common.{Result, Ok, Err, Bor, filter}
 use Rattle.std.specs.Prelude.{option_map}

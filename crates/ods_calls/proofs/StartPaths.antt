@@ -1,6 +1,6 @@
 -- Paths of the graph of starts, by names: a thread starts another where a path leads to it through operations alone.
 -- So a thread is on a ring of starts where it is on a ring of that graph.
-use Rattle.std.proofs.Common.{◌≡◌, ◌⊎◌, inl, inr, ◌&&◌, Bool, true, false, List, [], ◌∷◌, ◌++◌, map, length, refl, sym, ap, subst, ◌∙◌}
+use Rattle.std.proofs.Common.{◌≡◌, ◌⊎◌, inl, inr, ℕ, zero, suc, ◌&&◌, Bool, true, false, List, [], ◌∷◌, ◌++◌, map, flat_map, length, refl, sym, ap, subst, ◌∙◌}
 use Rattle.std.specs.List.{list_any}
 use Rattle.std.proofs.lemmas.Bool.{and_from, and_parts}
 use Rattle.seq_tree.proofs.Shared.SameNames.{same-is, same-self}
@@ -16,7 +16,16 @@ use Rattle.ods_calls.specs.Keys.{has_target, is_target}
 use Rattle.ods_calls.specs.Spreading.{direct_calls}
 use Rattle.ods_calls.specs.Starting.{Spot, Thread, Op}
 use Rattle.ods_calls.proofs.Items.{In, any-in, from-flat, in-flat, some-in}
-use Rattle.ods_calls.proofs.SpreadLaws.{within-calls}
+
+flat-same : (f g : OpName → List OpName) (xs : List OpName) → ((n : OpName) → f n ≡ g n) → flat_map f xs ≡ flat_map g xs
+flat-same f g [] same = refl
+flat-same f g (y ∷ xs) same = ap (λ l. l ++ flat_map f xs) (same y) ∙ ap (λ l. g y ++ l) (flat-same f g xs same)
+
+-- what is within a depth is what calls of protected operations lead to
+within-calls : (x : Design) (depth : ℕ) (n : OpName) → within depth (inner_calls x) n ≡ calls_within depth x n
+within-calls x zero n = refl
+within-calls x (suc depth) n =
+    ap (λ l. n ∷ l) (flat-same (within depth (inner_calls x)) (calls_within depth x) (inner_calls x n) (within-calls x depth))
 
 -- an operation among others, by a test and by itself
 pub among-in : (a : OpName) (xs : List OpName) → list_any (same_op a) xs ≡ true → In a xs
@@ -52,7 +61,7 @@ onward-step x m k n (inr (path, leads)) h = inr (path ++ k ∷ [], path-on (Step
 -- where whatever calls is a terminal operation, what a thread calls is what its own calls lead to
 module _ (x : Design) (on : LeadOn (inner_calls x) (terminal_ops x)) where
   within-same : (m : OpName) → within (length (terminal_ops x)) (inner_calls x) m ≡ calls_within (length (terminal_ops x)) x m
-  within-same m = within-calls x (inner_calls x) (λ n. refl) (length (terminal_ops x)) m
+  within-same m = within-calls x (length (terminal_ops x)) m
 
   pub onward-within : (m k : OpName) → Onward x m k → In k (calls_within (length (terminal_ops x)) x m)
   onward-within m k h =

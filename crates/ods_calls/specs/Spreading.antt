@@ -1,6 +1,6 @@
--- What threads can start: the operations that a thread calls, itself or through protected operations, found level by level.
--- Each operation is found once, in the order in which calls lead to it.
-use Rattle.std.specs.Prelude.{◌≡◌, ◌&&◌, ℕ, zero, suc, Bool, List, [], ◌∷◌, ◌++◌, map, flat_map, drop, length, if◌then◌else◌, option_to_list}
+-- What threads can start: the operations that a thread calls, itself or through protected operations.
+-- Of what calls these each operation is found once, in the order in which it was looked for.
+use Rattle.std.specs.Prelude.{◌≡◌, Bool, List, [], ◌∷◌, ◌++◌, map, flat_map, length, if◌then◌else◌, option_to_list}
 use Rattle.std.specs.List.{list_any}
 use Rattle.seq_tree.specs.Calls.{same_op}
 use Rattle.seq_tree.specs.Names.{Name, same_name}
@@ -9,11 +9,9 @@ use Rattle.name_sets.specs.Sets.{has_op}
 use Rattle.name_sets.specs.Tables.{at, listed, named}
 use Rattle.name_sets.specs.declared.sets.Ops.{Ops}
 use Rattle.ods_tree.specs.Designs.{Object, Design}
-use Rattle.ods_tree.specs.Flattening.{is_protected}
 use Rattle.design_rules.specs.Rings.{calls_within, meant_calls, terminal_ops, thread_calls}
-use Rattle.ods_index.specs.Calling.{Calls}
-use Rattle.ods_calls.specs.declared.starts.BodyCalls.{BodyCalls}
-use Rattle.ods_calls.specs.declared.starts.Inner.{Inner}
+use Rattle.ods_calls.specs.declared.callers.BodyCalls.{BodyCalls}
+use Rattle.ods_calls.specs.declared.callers.Inner.{Inner}
 use Rattle.seq_cost.specs.Different.{call_of}
 
 -- the operations that are kept for a name
@@ -24,10 +22,6 @@ body_at t name = map call_of (listed (named t.calls name))
 unfoldable pub inner_at : Inner → OpName → List OpName
 inner_at t name = map call_of (listed (at t.calls name))
 
--- what a body of a protected object calls, where it is that of an operation of this name
-abbrev pub body_steps : OpName → Calls → List OpName
-body_steps name c = if is_protected c.kind && same_op c.name name then c.meant else []
-
 -- an operation more, where it wasn't found before
 unfoldable pub found_more : List OpName → OpName → List OpName
 found_more all op = if list_any (same_op op) all then all else all ++ op ∷ []
@@ -36,11 +30,6 @@ found_more all op = if list_any (same_op op) all then all else all ++ op ∷ []
 abbrev pub found_all : List OpName → List OpName → List OpName
 found_all all [] = all
 found_all all (op ∷ ops) = found_all (found_more all op) ops
-
--- what is found in so many levels of calls more, where all that those before this place call was found
-abbrev pub spread : (OpName → List OpName) → ℕ → ℕ → List OpName → List OpName
-spread next zero from all = all
-spread next (suc depth) from all = spread next depth (length all) (found_all all (flat_map next (drop from all)))
 
 -- the set of what was found
 abbrev pub IsSeen : Ops → List OpName → Type 0

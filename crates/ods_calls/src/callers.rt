@@ -1,18 +1,176 @@
-ghost use Rattle.std.specs.Prelude.{◌≡◌, ◌∷◌, ◌++◌, [], IfOk, OnOk, filter, flat_map, map};
-ghost use Rattle.seq_tree.specs.Names.{Name as NameTree};
+ghost use Rattle.std.specs.Prelude.{◌≡◌, ◌∷◌, ◌++◌, [], IfOk, OnOk, filter, flat_map, if◌then◌else◌, map, option_map, unwrap_or};
+ghost use Rattle.seq_tree.specs.Calls.{same_op};
+ghost use Rattle.seq_tree.specs.Names.{Name as NameTree, same_name};
 ghost use Rattle.seq_tree.specs.declared.tree.OpName.{OpName as OpTree};
 ghost use Rattle.ods_index.specs.Calling.{calls_of};
 ghost use Rattle.ods_calls.specs.Held.{is_held};
 ghost use Rattle.ods_calls.specs.Requested.{object_caller, object_callers, op_caller, op_callers};
-ghost use Rattle.ods_calls.specs.Spreading.{body_at, found_all, inner_at};
+ghost use Rattle.ods_calls.specs.Spreading.{IsSeen, body_at, found_all, found_more, inner_at};
 ghost use Rattle.seq_cost.specs.Different.{call_of};
 
-use crate::starts::{BodyCalls, Inner, find_all, follow_all};
-use name_sets::Ops;
+use name_sets::{NameTable, OpTable, Ops};
 use ods_index::{OpCalls, is_protected};
 use seq_cost::Call;
 use seq_tree::{Name, NoMemory};
 use std::alloc::Global;
+
+/// Operations by names: those whose bodies call an operation of an object, by the name of the object.
+#[derive(Drop)]
+struct BodyCalls<'a> {
+    calls: NameTable<'a, Vec<Call<'a>>>,
+}
+
+impl<'a> BodyCalls<'a> {
+    /// No operations.
+    #[tactic(auto, unfolding(crate::specs::Spreading::body_at))]
+    fn new(alloc: Global) -> BodyCalls<'a>
+        ensures { (n : NameTree) → body_at result n ≡ [] }
+    {
+        BodyCalls {
+            calls: NameTable::new(alloc),
+        }
+    }
+
+    /// The operations that are kept for a name, where there is one.
+    #[tactic(auto, unfolding(crate::specs::Spreading::body_at))]
+    fn get(&self, op: &Name) -> Option<&[Call<'a>]>
+        ensures { unwrap_or (option_map (λ v. map call_of v.now) result) [] ≡ body_at self.now op.now }
+    {
+        match self.calls.find(op) {
+            None => None,
+            Some(calls) => Some(calls.as_slice()),
+        }
+    }
+
+    /// Adds operations behind those of a name.
+    #[tactic(auto, unfolding(crate::specs::Spreading::body_at))]
+    fn add(&mut self, alloc: Global, op: &'a Name, calls: &[Call<'a>]) -> Result<(), NoMemory>
+        ensures { OnOk result ((n : NameTree) → body_at self.new n ≡ body_at self.old n
+            ++ (if same_name op.entry.now n then map call_of calls.entry.now else [])) }
+    {
+        self.calls.extend(op, calls.to_vec(alloc)?)
+    }
+}
+
+/// What the bodies of protected operations call, links followed.
+#[derive(Drop)]
+struct Inner<'a> {
+    calls: OpTable<'a, Vec<Call<'a>>>,
+}
+
+impl<'a> Inner<'a> {
+    /// No calls.
+    #[tactic(auto, unfolding(crate::specs::Spreading::inner_at))]
+    fn new(alloc: Global) -> Inner<'a>
+        ensures { (n : OpTree) → inner_at result n ≡ [] }
+    {
+        Inner {
+            calls: OpTable::new(alloc),
+        }
+    }
+
+    /// What the bodies of an operation call, where there is one.
+    #[tactic(auto, unfolding(crate::specs::Spreading::inner_at))]
+    fn get(&self, op: &Call<'a>) -> Option<&[Call<'a>]>
+        ensures { unwrap_or (option_map (λ v. map call_of v.now) result) [] ≡ inner_at self.now (call_of op.entry.now) }
+    {
+        match self.calls.find(op.object, op.op) {
+            None => None,
+            Some(calls) => Some(calls.as_slice()),
+        }
+    }
+
+    /// Adds what a body of an operation calls.
+    #[tactic(auto, unfolding(crate::specs::Spreading::inner_at))]
+    fn add(
+        &mut self,
+        alloc: Global,
+        object: &'a Name,
+        op: &'a Name,
+        calls: &[Call<'a>],
+    ) -> Result<(), NoMemory>
+        ensures { OnOk result ((n : OpTree) → inner_at self.new n ≡ inner_at self.old n
+            ++ (if same_op (record { object = object.entry.now; op = op.entry.now }) n then map call_of calls.entry.now else [])) }
+    {
+        self.calls.extend(alloc, object, op, calls.to_vec(alloc)?)
+    }
+}
+
+/// Adds an operation, where it wasn't found before.
+#[tactic(auto, unfolding(crate::specs::Spreading::found_more))]
+fn find<'a>(
+    alloc: Global,
+    op: &Call<'a>,
+    seen: &mut Ops<'a>,
+    found: &mut Vec<Call<'a>>,
+) -> Result<(), NoMemory>
+    requires { IsSeen seen.old (map call_of found.old.items) }
+    ensures found { OnOk result (map call_of found.new.items ≡ found_more (map call_of found.old.items) (call_of op.entry.now)) }
+    ensures seen { OnOk result (IsSeen seen.new (map call_of found.new.items)) }
+{
+    if seen.has(op.object, op.op) {
+        return Ok(());
+    }
+    seen.add(alloc, op.object, op.op)?;
+    found.push(*op)?;
+    Ok(())
+}
+
+/// Adds operations that weren't found before.
+fn find_all<'a>(
+    alloc: Global,
+    ops: &[Call<'a>],
+    seen: &mut Ops<'a>,
+    found: &mut Vec<Call<'a>>,
+) -> Result<(), NoMemory>
+    requires { IsSeen seen.old (map call_of found.old.items) }
+    ensures found { OnOk result (map call_of found.new.items ≡ found_all (map call_of found.old.items) (map call_of ops.entry.now)) }
+    ensures seen { OnOk result (IsSeen seen.new (map call_of found.new.items)) }
+{
+    'ops: for op in ops {
+        find(alloc, op, seen, found)?;
+    }
+    Ok(())
+}
+
+/// Adds what an operation calls, where it wasn't found before.
+#[tactic(auto, using(crate::proofs::FoundLaws::found_laws))]
+fn follow<'a>(
+    alloc: Global,
+    inner: &Inner<'a>,
+    op: &Call<'a>,
+    seen: &mut Ops<'a>,
+    found: &mut Vec<Call<'a>>,
+) -> Result<(), NoMemory>
+    requires { IsSeen seen.old (map call_of found.old.items) }
+    ensures found { OnOk result (map call_of found.new.items ≡ found_all (map call_of found.old.items) (inner_at inner.entry.now (call_of op.entry.now))) }
+    ensures seen { OnOk result (IsSeen seen.new (map call_of found.new.items)) }
+{
+    match inner.get(op) {
+        None => Ok(()),
+        Some(calls) => find_all(alloc, calls, seen, found),
+    }
+}
+
+/// Adds what these operations call, where it wasn't found before.
+#[tactic(auto, using(crate::proofs::FoundLaws::found_laws))]
+fn follow_all<'a>(
+    alloc: Global,
+    inner: &Inner<'a>,
+    ops: &[Call<'a>],
+    seen: &mut Ops<'a>,
+    found: &mut Vec<Call<'a>>,
+) -> Result<(), NoMemory>
+    requires { IsSeen seen.old (map call_of found.old.items) }
+    ensures found { OnOk result (map call_of found.new.items
+        ≡ found_all (map call_of found.old.items) (flat_map (inner_at inner.entry.now) (map call_of ops.entry.now))) }
+    ensures seen { OnOk result (IsSeen seen.new (map call_of found.new.items)) }
+{
+    'ops: for op in ops {
+        follow(alloc, inner, op, seen, found)?;
+    }
+    Ok(())
+}
 
 /// Which protected operations call an operation, and which call operations of an object.
 #[derive(Drop)]
@@ -95,7 +253,7 @@ impl<'a> Callers<'a> {
     }
 
     /// The operations that call one of an object, each once.
-    #[tactic(auto, using(crate::proofs::SpreadLaws::spread_laws))]
+    #[tactic(auto, using(crate::proofs::FoundLaws::found_laws))]
     pub(crate) fn of_object(&self, alloc: Global, object: &Name) -> Result<Vec<Call<'a>>, NoMemory>
         ensures { IfOk result (λ v. map call_of v.items ≡ found_all [] (body_at self.now.objects object.now)) }
     {

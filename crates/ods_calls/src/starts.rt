@@ -1,9 +1,6 @@
-ghost use Rattle.std.specs.Prelude.{◌≡◌, ◌≤◌, ◌∷◌, ◌++◌, [], IfOk, OnOk, filter, flat_map, if◌then◌else◌, length, map, option_map};
-ghost use Rattle.std.specs.Prelude.{unwrap_or, get_or, false, ℕ, Some};
+ghost use Rattle.std.specs.Prelude.{◌≡◌, ◌∷◌, ◌++◌, [], ℕ, false, Some, IfOk, OnOk, filter, flat_map, get_or, length, map};
 ghost use Rattle.std.specs.List.{list_any};
-ghost use Rattle.seq_tree.specs.Calls.{same_op};
-ghost use Rattle.seq_tree.specs.Names.{Name as NameTree, same_name};
-ghost use Rattle.seq_tree.specs.declared.tree.OpName.{OpName as OpTree};
+ghost use Rattle.seq_tree.specs.Names.{Name as NameTree};
 ghost use Rattle.ods_tree.specs.Trees.{design_of};
 ghost use Rattle.ods_tree.specs.Walk.{is_terminal};
 ghost use Rattle.design_rules.specs.Lookups.{has_thread};
@@ -17,182 +14,18 @@ ghost use Rattle.ods_calls.specs.Spotted.{spot_in};
 ghost use Rattle.ods_calls.specs.Starting.{Spot, Thread, all_held, spot_from, spots_of, turned};
 ghost use Rattle.rings.specs.Graphs.{is_step};
 ghost use Rattle.rings.specs.Reached.{leads};
-ghost use Rattle.ods_calls.specs.Spreading.{direct_calls, IsSeen, body_at, found_all, found_more, inner_at, led, reaches};
+ghost use Rattle.ods_calls.specs.Spreading.{direct_calls, led, reaches};
 ghost use Rattle.ods_index.specs.Walking.{object_of, standing_of};
 ghost use Rattle.seq_cost.specs.Different.{call_of};
 
 use crate::spots::{Aim, Part, Spots, held_edges, spots_of};
 use call_graph::places_called;
-use name_sets::{NameTable, OpTable, Ops};
 use ods_index::{Index, Links, OpCalls, Required, Standing, has_thread, is_terminal, meant_calls};
 use ods_tree::Node;
 use rings::Graph;
 use seq_cost::Call;
-use seq_tree::{Name, NoMemory};
+use seq_tree::NoMemory;
 use std::alloc::Global;
-
-/// Operations by names: those whose bodies call an operation of an object, by the name of the object.
-#[derive(Drop)]
-pub(crate) struct BodyCalls<'a> {
-    calls: NameTable<'a, Vec<Call<'a>>>,
-}
-
-impl<'a> BodyCalls<'a> {
-    /// No operations.
-    #[tactic(auto, unfolding(crate::specs::Spreading::body_at))]
-    pub(crate) fn new(alloc: Global) -> BodyCalls<'a>
-        ensures { (n : NameTree) → body_at result n ≡ [] }
-    {
-        BodyCalls {
-            calls: NameTable::new(alloc),
-        }
-    }
-
-    /// The operations that are kept for a name, where there is one.
-    #[tactic(auto, unfolding(crate::specs::Spreading::body_at))]
-    pub(crate) fn get(&self, op: &Name) -> Option<&[Call<'a>]>
-        ensures { unwrap_or (option_map (λ v. map call_of v.now) result) [] ≡ body_at self.now op.now }
-    {
-        match self.calls.find(op) {
-            None => None,
-            Some(calls) => Some(calls.as_slice()),
-        }
-    }
-
-    /// Adds operations behind those of a name.
-    #[tactic(auto, unfolding(crate::specs::Spreading::body_at))]
-    pub(crate) fn add(
-        &mut self,
-        alloc: Global,
-        op: &'a Name,
-        calls: &[Call<'a>],
-    ) -> Result<(), NoMemory>
-        ensures { OnOk result ((n : NameTree) → body_at self.new n ≡ body_at self.old n
-            ++ (if same_name op.entry.now n then map call_of calls.entry.now else [])) }
-    {
-        self.calls.extend(op, calls.to_vec(alloc)?)
-    }
-}
-
-/// What the bodies of protected operations call, links followed.
-#[derive(Drop)]
-pub(crate) struct Inner<'a> {
-    calls: OpTable<'a, Vec<Call<'a>>>,
-}
-
-impl<'a> Inner<'a> {
-    /// No calls.
-    #[tactic(auto, unfolding(crate::specs::Spreading::inner_at))]
-    pub(crate) fn new(alloc: Global) -> Inner<'a>
-        ensures { (n : OpTree) → inner_at result n ≡ [] }
-    {
-        Inner {
-            calls: OpTable::new(alloc),
-        }
-    }
-
-    /// What the bodies of an operation call, where there is one.
-    #[tactic(auto, unfolding(crate::specs::Spreading::inner_at))]
-    fn get(&self, op: &Call<'a>) -> Option<&[Call<'a>]>
-        ensures { unwrap_or (option_map (λ v. map call_of v.now) result) [] ≡ inner_at self.now (call_of op.entry.now) }
-    {
-        match self.calls.find(op.object, op.op) {
-            None => None,
-            Some(calls) => Some(calls.as_slice()),
-        }
-    }
-
-    /// Adds what a body of an operation calls.
-    #[tactic(auto, unfolding(crate::specs::Spreading::inner_at))]
-    pub(crate) fn add(
-        &mut self,
-        alloc: Global,
-        object: &'a Name,
-        op: &'a Name,
-        calls: &[Call<'a>],
-    ) -> Result<(), NoMemory>
-        ensures { OnOk result ((n : OpTree) → inner_at self.new n ≡ inner_at self.old n
-            ++ (if same_op (record { object = object.entry.now; op = op.entry.now }) n then map call_of calls.entry.now else [])) }
-    {
-        self.calls.extend(alloc, object, op, calls.to_vec(alloc)?)
-    }
-}
-
-/// Adds an operation, where it wasn't found before.
-#[tactic(auto, unfolding(crate::specs::Spreading::found_more))]
-fn find<'a>(
-    alloc: Global,
-    op: &Call<'a>,
-    seen: &mut Ops<'a>,
-    found: &mut Vec<Call<'a>>,
-) -> Result<(), NoMemory>
-    requires { IsSeen seen.old (map call_of found.old.items) }
-    ensures found { OnOk result (map call_of found.new.items ≡ found_more (map call_of found.old.items) (call_of op.entry.now)) }
-    ensures seen { OnOk result (IsSeen seen.new (map call_of found.new.items)) }
-{
-    if seen.has(op.object, op.op) {
-        return Ok(());
-    }
-    seen.add(alloc, op.object, op.op)?;
-    found.push(*op)?;
-    Ok(())
-}
-
-/// Adds operations that weren't found before.
-pub(crate) fn find_all<'a>(
-    alloc: Global,
-    ops: &[Call<'a>],
-    seen: &mut Ops<'a>,
-    found: &mut Vec<Call<'a>>,
-) -> Result<(), NoMemory>
-    requires { IsSeen seen.old (map call_of found.old.items) }
-    ensures found { OnOk result (map call_of found.new.items ≡ found_all (map call_of found.old.items) (map call_of ops.entry.now)) }
-    ensures seen { OnOk result (IsSeen seen.new (map call_of found.new.items)) }
-{
-    'ops: for op in ops {
-        find(alloc, op, seen, found)?;
-    }
-    Ok(())
-}
-
-/// Adds what an operation calls, where it wasn't found before.
-#[tactic(auto, using(crate::proofs::SpreadLaws::spread_laws))]
-fn follow<'a>(
-    alloc: Global,
-    inner: &Inner<'a>,
-    op: &Call<'a>,
-    seen: &mut Ops<'a>,
-    found: &mut Vec<Call<'a>>,
-) -> Result<(), NoMemory>
-    requires { IsSeen seen.old (map call_of found.old.items) }
-    ensures found { OnOk result (map call_of found.new.items ≡ found_all (map call_of found.old.items) (inner_at inner.entry.now (call_of op.entry.now))) }
-    ensures seen { OnOk result (IsSeen seen.new (map call_of found.new.items)) }
-{
-    match inner.get(op) {
-        None => Ok(()),
-        Some(calls) => find_all(alloc, calls, seen, found),
-    }
-}
-
-/// Adds what these operations call, where it wasn't found before.
-#[tactic(auto, using(crate::proofs::SpreadLaws::spread_laws))]
-pub(crate) fn follow_all<'a>(
-    alloc: Global,
-    inner: &Inner<'a>,
-    ops: &[Call<'a>],
-    seen: &mut Ops<'a>,
-    found: &mut Vec<Call<'a>>,
-) -> Result<(), NoMemory>
-    requires { IsSeen seen.old (map call_of found.old.items) }
-    ensures found { OnOk result (map call_of found.new.items
-        ≡ found_all (map call_of found.old.items) (flat_map (inner_at inner.entry.now) (map call_of ops.entry.now))) }
-    ensures seen { OnOk result (IsSeen seen.new (map call_of found.new.items)) }
-{
-    'ops: for op in ops {
-        follow(alloc, inner, op, seen, found)?;
-    }
-    Ok(())
-}
 
 /// Adds an object, where it has a thread and no children.
 fn add_thread<'a>(standing: &Standing<'a>, into: &mut Vec<&'a Node>) -> Result<(), NoMemory>
@@ -223,7 +56,7 @@ pub fn threads_of<'a>(alloc: Global, objects: &[Standing<'a>]) -> Result<Vec<&'a
 }
 
 /// What the thread of an object calls itself.
-#[tactic(auto, using(ods_index::proofs::Shared::WalkSteps::node_steps, crate::proofs::SpreadLaws::thread_laws))]
+#[tactic(auto, using(ods_index::proofs::Shared::WalkSteps::node_steps, crate::proofs::KeySteps::thread_laws))]
 pub(crate) fn thread_starts<'a>(
     alloc: Global,
     links: &Links<'a>,

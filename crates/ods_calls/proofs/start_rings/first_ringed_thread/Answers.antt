@@ -1,4 +1,4 @@
-use Rattle.std.proofs.Common.{rules, ◌≡◌, List, Option, None, Some, false, ap, sym, subst, ◌∙◌, arith, map, slice_get, ℕ}
+use Rattle.std.proofs.Common.{rules, ◌≡◌, List, Option, false, ap, sym, subst, ◌∙◌, arith, map, slice_get, ℕ}
 use Rattle.std.specs.Prelude.{option_map}
 use Rattle.std.specs.List.{list_any}
 use Rattle.ods_tree.specs.Designs.{Object}

@@ -1,4 +1,4 @@
-use Rattle.std.proofs.Common.{◌≡◌, ◌-◌, suc, [], List, Some, map, length, arith, ap, sym, ◌∙◌, if◌then◌else◌}
+use Rattle.std.proofs.Common.{◌≡◌, ◌-◌, suc, List, Some, map, length, arith, ap, sym, ◌∙◌, if◌then◌else◌}
 use Rattle.std.proofs.lemmas.List.{drop_all}
 use Rattle.ods_calls.specs.Spotted.{spot_of}
 use Rattle.ods_calls.specs.Starting.{same_spot, spot_from}

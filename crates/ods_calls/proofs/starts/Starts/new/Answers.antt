@@ -1,10 +1,8 @@
-use Rattle.std.proofs.Common.{◌≡◌, sym, subst, ◌∙◌}
-use Rattle.ods_tree.specs.Designs.{Design}
+use Rattle.std.proofs.Common.{sym, subst}
 use Rattle.ods_tree.specs.Trees.{design_of}
 use Rattle.ods_tree.specs.declared.design.Design as code
 use Rattle.design_rules.specs.Rules.{Fitting}
 use Rattle.ods_index.specs.Judging.{Passes}
-use Rattle.ods_calls.specs.declared.spots.Spot as listed
 use Rattle.ods_calls.proofs.starts.Starts.new.Goals as goal
 
 pub invariant_of-result-clause-fits : goal.invariant_of-result-clause-fits

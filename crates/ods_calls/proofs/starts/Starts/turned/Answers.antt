@@ -1,4 +1,4 @@
-use Rattle.std.proofs.Common.{◌≡◌, List, IfOk, ℕ, map, length, ap, ◌∙◌}
+use Rattle.std.proofs.Common.{◌≡◌, List, ℕ, map, length, ap, ◌∙◌}
 use Rattle.std.proofs.lemmas.Result.{IfOk-weaker}
 use Rattle.ods_tree.specs.Trees.{design_of}
 use Rattle.ods_index.specs.Calling.{Calls, design_calls}

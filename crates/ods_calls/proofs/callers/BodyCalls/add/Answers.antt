@@ -4,7 +4,7 @@ use Rattle.seq_tree.specs.Names.{same_name}
 use Rattle.name_sets.specs.Tables.{listed, named}
 use Rattle.ods_calls.specs.Spreading.{body_at}
 use Rattle.ods_calls.proofs.KeptCalls.{added}
-use Rattle.ods_calls.proofs.starts.BodyCalls.add.Goals as goal
+use Rattle.ods_calls.proofs.callers.BodyCalls.add.Goals as goal
 use Rattle.seq_cost.specs.Different.{call_of}
 
 pub returns : goal.returns

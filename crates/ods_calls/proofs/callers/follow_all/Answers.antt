@@ -1,8 +1,8 @@
 use Rattle.std.proofs.Common.{◌≡◌, ◌∷◌, ◌+◌, List, flat_map, map, drop, ap, sym, ◌∙◌}
 use Rattle.seq_tree.proofs.Shared.LoopSteps.{drop_step}
 use Rattle.ods_calls.specs.Spreading.{found_all, inner_at}
-use Rattle.ods_calls.proofs.SpreadLaws.{found-append}
-use Rattle.ods_calls.proofs.starts.follow_all.Goals as goal
+use Rattle.ods_calls.proofs.FoundLaws.{found-append}
+use Rattle.ods_calls.proofs.callers.follow_all.Goals as goal
 use Rattle.seq_cost.specs.Different.{call_of}
 use Rattle.seq_cost.specs.declared.written.Call.{Call}
 

@@ -1,6 +1,6 @@
 use Rattle.std.proofs.Common.{◌≡◌, map, drop}
 use Rattle.ods_calls.specs.Spreading.{IsSeen, found_all}
-use Rattle.ods_calls.proofs.starts.find_all.Given as goal
+use Rattle.ods_calls.proofs.callers.find_all.Given as goal
 use Rattle.seq_cost.specs.Different.{call_of}
 
 -- what was found so far, and the operations that are left

@@ -4,7 +4,7 @@ use Rattle.seq_tree.specs.Calls.{same_op}
 use Rattle.name_sets.specs.Tables.{at, listed}
 use Rattle.ods_calls.specs.Spreading.{inner_at}
 use Rattle.ods_calls.proofs.KeptCalls.{added}
-use Rattle.ods_calls.proofs.starts.Inner.add.Goals as goal
+use Rattle.ods_calls.proofs.callers.Inner.add.Goals as goal
 use Rattle.seq_cost.specs.Different.{call_of}
 
 pub returns : goal.returns

@@ -1,6 +1,6 @@
 use Rattle.std.proofs.Common.{◌≡◌, flat_map, map, drop}
 use Rattle.ods_calls.specs.Spreading.{IsSeen, found_all, inner_at}
-use Rattle.ods_calls.proofs.starts.follow_all.Given as goal
+use Rattle.ods_calls.proofs.callers.follow_all.Given as goal
 use Rattle.seq_cost.specs.Different.{call_of}
 
 -- what was found so far, and what the operations call that are left

@@ -4,7 +4,7 @@ use Rattle.std.specs.List.{list_any}
 use Rattle.seq_tree.specs.Calls.{same_op}
 use Rattle.name_sets.specs.Sets.{has_op}
 use Rattle.ods_calls.proofs.KeptCalls.{seen-more}
-use Rattle.ods_calls.proofs.starts.find.Goals as goal
+use Rattle.ods_calls.proofs.callers.find.Goals as goal
 use Rattle.seq_cost.specs.Different.{call_of}
 
 pub returns-clause-seen : goal.returns-clause-seen

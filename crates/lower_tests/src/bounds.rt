@@ -3,9 +3,11 @@
 ghost use Rattle.std.specs.Prelude.{◌≡◌, true};
 ghost use Rattle.rt_response.specs.Tables.{IsRow, IsTable};
 
+use super::looks::{check_same, check_that};
 use rt_response::{Bound, Limit, Miss, ThreadRow, respond};
+use std::alloc::Global;
+use std::process::Abort;
 use std::str::SplitWhitespace;
-use std::test::Fail;
 
 /// Tables and what is answered, each a text of lines: `row` has the period, the deadline, the jitter, the cost and the blocking of a row,
 /// and the place of its starter, where it has one; `bound` the jitter and the response of a row; `miss` the row, the limit that is
@@ -143,25 +145,25 @@ fn miss_of(words: &str) -> Miss {
 }
 
 /// The rows of a text.
-fn rows(rt: &HostRuntime, text: &str) -> Result<Vec<ThreadRow>, Fail> {
-    let mut all = Vec::new(rt.alloc());
+fn rows(rt: &impl Abort, alloc: Global, text: &str) -> Vec<ThreadRow> {
+    let mut all = Vec::new(alloc);
     for line in text.lines() {
         if let Some(numbers) = line.trim_start().strip_prefix("row: ") {
-            all.push(row_of(numbers))?;
+            all.push(row_of(numbers)).expect(rt, "memory");
         }
     }
-    Ok(all)
+    all
 }
 
 /// The bounds of a text.
-fn bounds(rt: &HostRuntime, text: &str) -> Result<Vec<Bound>, Fail> {
-    let mut all = Vec::new(rt.alloc());
+fn bounds(rt: &impl Abort, alloc: Global, text: &str) -> Vec<Bound> {
+    let mut all = Vec::new(alloc);
     for line in text.lines() {
         if let Some(numbers) = line.trim_start().strip_prefix("bound: ") {
-            all.push(bound_of(numbers))?;
+            all.push(bound_of(numbers)).expect(rt, "memory");
         }
     }
-    Ok(all)
+    all
 }
 
 /// What a text misses.
@@ -206,23 +208,29 @@ fn is_table(rows: &[ThreadRow]) -> bool
     rows.len() <= 30
 }
 
+/// Looks at what is answered to the table of a text, of which these bounds are wanted.
+fn check_answer(rt: &impl Abort, text: &str, rows: &[ThreadRow], wanted: &[Bound]) {
+    let mut found = [Bound {
+        jitter: 7,
+        response: 7,
+    }; 30];
+    check_that(rt, is_table(rows), text);
+    let (found, _) = found.split_at_mut(rows.len());
+    let answer = respond(rows, found);
+    check_same(rt, &answer.err(), &miss(text), text);
+    check_that(rt, *found == *wanted, text);
+}
+
 #[test]
-fn answers_the_least_vector_or_the_first_miss(rt: HostRuntime) -> Result<(), Fail> {
+fn answers_the_least_vector_or_the_first_miss(rt: HostRuntime) {
     for text in TABLES {
-        let rows = rows(&rt, text)?;
-        let wanted = bounds(&rt, text)?;
-        let rows = rows.as_slice();
-        let mut found = [Bound {
-            jitter: 7,
-            response: 7,
-        }; 30];
-        assert!(rt; is_table(rows), "{text}: no table");
-        let (found, _) = found.split_at_mut(rows.len());
-        let answer = respond(rows, found);
-        assert_eq!(rt; answer.err(), miss(text), "{text}");
-        assert!(rt; *found == *wanted.as_slice(), "{text}");
+        check_answer(
+            &rt,
+            text,
+            &rows(&rt, rt.alloc(), text),
+            &bounds(&rt, rt.alloc(), text),
+        );
     }
-    Ok(())
 }
 
 #[test]
@@ -240,13 +248,13 @@ fn thirty_rows_are_answered(rt: HostRuntime) {
         jitter: 7,
         response: 7,
     }; 30];
-    assert!(rt; is_table(&rows), "no table");
-    assert_eq!(rt; respond(&rows, &mut found).err(), None);
+    check_that(&rt, is_table(&rows), "a table");
+    check_same(&rt, &respond(&rows, &mut found).err(), &None, "no miss");
     for (index, bound) in found.iter().enumerate() {
         let wanted = Bound {
             jitter: 0,
             response: (index as u32).saturating_add(1),
         };
-        assert_eq!(rt; *bound, wanted);
+        check_same(&rt, bound, &wanted, "a bound");
     }
 }

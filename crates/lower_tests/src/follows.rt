@@ -1,11 +1,11 @@
 //! Blocks that are followed along scripts of actions.
 
-use super::counts::block;
+use super::counts::{block, operation};
+use super::looks::{check_same, check_that};
 use seq_eval::{Action, Env, Followed, follow};
-use seq_tree::{
-    Block, Callable, Costs, Datum, Expr, Mode, Name, OpName, OpSig, OpText, Param, Stmt,
-};
-use std::test::Fail;
+use seq_tree::{Block, Callable, Costs, Datum, Expr, Mode, Name, OpSig, OpText, Param, Stmt};
+use std::alloc::Global;
+use std::process::Abort;
 
 /// The least costs that may be.
 const COSTS: Costs = Costs {
@@ -215,198 +215,248 @@ const ROWS: [Row; 21] = [
 ];
 
 /// A name.
-fn name(rt: &HostRuntime, text: &str) -> Result<Name, Fail> {
-    Ok(Name::make(rt.alloc(), text.as_bytes())?)
+fn name(rt: &impl Abort, alloc: Global, text: &str) -> Name {
+    Name::make(alloc, text.as_bytes()).expect(rt, "memory")
 }
 
-/// The name of an operation.
-fn op_name(rt: &HostRuntime, object: &str, op: &str) -> Result<OpName, Fail> {
-    Ok(OpName {
-        object: name(rt, object)?,
-        op: name(rt, op)?,
-    })
+/// The head of an operation: its name, the parameters that hand a value in, and those that hand one out.
+type Head = (
+    &'static str,
+    &'static [&'static str],
+    &'static [&'static str],
+);
+
+/// Adds parameters of a mode.
+fn push_params(
+    rt: &impl Abort,
+    alloc: Global,
+    params: &mut Vec<Param>,
+    names: &[&str],
+    mode: Mode,
+) {
+    for param in names {
+        params
+            .push(Param {
+                name: name(rt, alloc, param),
+                mode,
+            })
+            .expect(rt, "memory");
+    }
 }
 
-/// The head of an operation, with parameters that hand a value in, and some that hand one out.
-fn sig(rt: &HostRuntime, op: &str, ins: &[&str], outs: &[&str]) -> Result<OpSig, Fail> {
-    let mut params = Vec::new(rt.alloc());
-    for param in ins {
-        params.push(Param {
-            name: name(rt, param)?,
-            mode: Mode::In,
-        })?;
-    }
-    for param in outs {
-        params.push(Param {
-            name: name(rt, param)?,
-            mode: Mode::Out,
-        })?;
-    }
-    Ok(OpSig {
-        name: name(rt, op)?,
+/// The head of an operation.
+fn sig(rt: &impl Abort, alloc: Global, head: Head) -> OpSig {
+    let (op, ins, outs) = head;
+    let mut params = Vec::new(alloc);
+    push_params(rt, alloc, &mut params, ins, Mode::In);
+    push_params(rt, alloc, &mut params, outs, Mode::Out);
+    OpSig {
+        name: name(rt, alloc, op),
         params,
-    })
+    }
 }
 
 /// An operation with one local, k.
-fn op(rt: &HostRuntime, sig: OpSig, body: &str) -> Result<OpText, Fail> {
-    let mut locals = Vec::new(rt.alloc());
-    locals.push(Datum {
-        name: name(rt, "k")?,
-        value: 2,
-    })?;
-    Ok(OpText {
-        sig,
+fn op(rt: &impl Abort, alloc: Global, head: Head, body: &str) -> OpText {
+    let mut locals = Vec::new(alloc);
+    locals
+        .push(Datum {
+            name: name(rt, alloc, "k"),
+            value: 2,
+        })
+        .expect(rt, "memory");
+    OpText {
+        sig: sig(rt, alloc, head),
         locals,
-        block: block(rt, body)?,
-    })
+        block: block(rt, alloc, body),
+    }
 }
 
 /// An action.
-fn action(rt: &HostRuntime, told: Told) -> Result<Action, Fail> {
-    Ok(match told {
+fn action(rt: &impl Abort, alloc: Global, told: Told) -> Action {
+    match told {
         Told::Enter(object, op, values) => Action::Enter {
-            name: op_name(rt, object, op)?,
-            values: Vec::from_slice(rt.alloc(), values)?,
+            name: operation(rt, alloc, object, op),
+            values: Vec::from_slice(alloc, values).expect(rt, "memory"),
         },
         Told::Leave(object, op, values) => Action::Leave {
-            name: op_name(rt, object, op)?,
-            values: Vec::from_slice(rt.alloc(), values)?,
+            name: operation(rt, alloc, object, op),
+            values: Vec::from_slice(alloc, values).expect(rt, "memory"),
         },
         Told::Request(task, op, value) => Action::Request {
-            name: op_name(rt, task, op)?,
+            name: operation(rt, alloc, task, op),
             value,
         },
         Told::Print(value) => Action::Print(value),
-    })
+    }
 }
 
-/// The answer of following the block of a row along its script, and the variables after it.
-fn followed(rt: &HostRuntime, row: &Row) -> Result<(Followed, Env), Fail> {
-    let passive = [
-        op(
-            rt,
-            sig(rt, "twice", &["n"], &["m"])?,
-            "m := n * k; work (3); end",
-        )?,
-        op(
-            rt,
-            sig(rt, "outer", &["n"], &["m"])?,
-            "p.twice (n, m); m := m + 1; end",
-        )?,
-        op(
-            rt,
-            sig(rt, "both", &["n"], &["a", "b"])?,
-            "a := n + 1; b := n + 2; end",
-        )?,
-    ];
-    let owners = [name(rt, "p")?, name(rt, "p")?, name(rt, "p")?];
-    let shared = [Callable {
-        object: name(rt, "q")?,
-        sig: sig(rt, "swap", &["a"], &["b", "c"])?,
-    }];
-    let requests = [
-        Callable {
-            object: name(rt, "s")?,
-            sig: sig(rt, "start", &["v"], &[])?,
-        },
-        Callable {
-            object: name(rt, "t")?,
-            sig: sig(rt, "go", &[], &[])?,
-        },
-    ];
-    let mut slots = Vec::new(rt.alloc());
-    slots.push((name(rt, "x")?, 5))?;
-    slots.push((name(rt, "y")?, 0))?;
-    slots.push((name(rt, "z")?, 0))?;
-    let mut env = Env { slots };
-    let mut script = Vec::new(rt.alloc());
-    for told in row.script {
-        script.push(action(rt, *told)?)?;
+/// The passive operations of `p`, and their bodies.
+const PASSIVE: &[(Head, &str)] = &[
+    (("twice", &["n"], &["m"]), "m := n * k; work (3); end"),
+    (("outer", &["n"], &["m"]), "p.twice (n, m); m := m + 1; end"),
+    (("both", &["n"], &["a", "b"]), "a := n + 1; b := n + 2; end"),
+];
+
+/// The protected operation, and those that request tasks.
+const SHARED: &[(&str, Head)] = &[("q", ("swap", &["a"], &["b", "c"]))];
+
+const REQUESTS: &[(&str, Head)] = &[("s", ("start", &["v"], &[])), ("t", ("go", &[], &[]))];
+
+/// The passive operations, and the object of each.
+fn passive(rt: &impl Abort, alloc: Global) -> (Vec<OpText>, Vec<Name>) {
+    let mut ops = Vec::new(alloc);
+    let mut owners = Vec::new(alloc);
+    for (head, body) in PASSIVE {
+        ops.push(op(rt, alloc, *head, body)).expect(rt, "memory");
+        owners.push(name(rt, alloc, "p")).expect(rt, "memory");
     }
-    let answer = follow(
-        rt.alloc(),
-        &block(rt, row.text)?,
-        &COSTS,
-        &passive,
-        &owners,
-        &shared,
-        &requests,
+    (ops, owners)
+}
+
+/// Operations of objects.
+fn callables(rt: &impl Abort, alloc: Global, heads: &[(&str, Head)]) -> Vec<Callable> {
+    let mut all = Vec::new(alloc);
+    for (object, head) in heads {
+        all.push(Callable {
+            object: name(rt, alloc, object),
+            sig: sig(rt, alloc, *head),
+        })
+        .expect(rt, "memory");
+    }
+    all
+}
+
+/// The variables before a block.
+fn variables(rt: &impl Abort, alloc: Global) -> Env {
+    let mut slots = Vec::new(alloc);
+    for (text, value) in [("x", 5), ("y", 0), ("z", 0)] {
+        slots
+            .push((name(rt, alloc, text), value))
+            .expect(rt, "memory");
+    }
+    Env { slots }
+}
+
+/// The script of a row.
+fn script(rt: &impl Abort, alloc: Global, row: &Row) -> Vec<Action> {
+    let mut all = Vec::new(alloc);
+    for told in row.script {
+        all.push(action(rt, alloc, *told)).expect(rt, "memory");
+    }
+    all
+}
+
+/// Follows a block along a script, where calls lead to these; each passive operation has an object.
+fn followed(
+    rt: &impl Abort,
+    alloc: Global,
+    block: &Block,
+    passive: (&[OpText], &[Name]),
+    shared: &[Callable],
+    requests: &[Callable],
+    env: &mut Env,
+    script: &[Action],
+) -> Followed {
+    let (ops, owners) = passive;
+    check_that(
+        rt,
+        owners.len() == ops.len(),
+        "each operation has an object",
+    );
+    follow(
+        alloc, block, &COSTS, ops, owners, shared, requests, env, script,
+    )
+    .expect(rt, "memory")
+}
+
+/// Looks at the answer of following the block of a row along its script, and at the variables after it.
+fn check_followed(rt: &impl Abort, alloc: Global, row: &Row) {
+    let (ops, owners) = passive(rt, alloc);
+    let mut env = variables(rt, alloc);
+    let answer = followed(
+        rt,
+        alloc,
+        &block(rt, alloc, row.text),
+        (&ops, &owners),
+        &callables(rt, alloc, SHARED),
+        &callables(rt, alloc, REQUESTS),
         &mut env,
-        script.as_slice(),
-    )?;
-    Ok((answer, env))
+        &script(rt, alloc, row),
+    );
+    check_same(rt, &answer, &row.answer, row.text);
+    for (slot, wanted) in env.slots.iter().zip([5, row.y, row.z]) {
+        check_same(rt, &slot.1, &wanted, row.text);
+    }
 }
 
 #[test]
-fn blocks_are_followed(rt: HostRuntime) -> Result<(), Fail> {
+fn blocks_are_followed(rt: HostRuntime) {
     for row in &ROWS {
-        let (answer, env) = followed(&rt, row)?;
-        assert_eq!(rt; answer, row.answer, "{}", row.text);
-        for (slot, wanted) in env.slots.iter().zip([5, row.y, row.z]) {
-            assert_eq!(rt; slot.1, wanted, "{}", row.text);
-        }
+        check_followed(&rt, rt.alloc(), row);
     }
-    Ok(())
 }
 
 /// The name of the operation at a place in a chain.
-fn link(rt: &HostRuntime, place: usize) -> Result<Name, Fail> {
+fn link(rt: &impl Abort, alloc: Global, place: usize) -> Name {
     let letter = |n: usize| b'a'.wrapping_add((n % 26) as u8);
     let bytes = [b'f', letter(place / 676), letter(place / 26), letter(place)];
-    Ok(Name::make(rt.alloc(), &bytes)?)
+    Name::make(alloc, &bytes).expect(rt, "memory")
+}
+
+/// The body of the operation at a place in a chain: it calls the next one, and the last prints.
+fn body(rt: &impl Abort, alloc: Global, place: usize) -> Stmt {
+    if place == 14999 {
+        return Stmt::Put(Expr::Number(7));
+    }
+    Stmt::Call {
+        object: name(rt, alloc, "p"),
+        op: link(rt, alloc, place.saturating_add(1)),
+        actuals: Vec::new(alloc),
+    }
+}
+
+/// The operation at a place in a chain.
+fn chain_op(rt: &impl Abort, alloc: Global, place: usize) -> OpText {
+    let mut stmts = Vec::new(alloc);
+    stmts.push(body(rt, alloc, place)).expect(rt, "memory");
+    OpText {
+        sig: OpSig {
+            name: link(rt, alloc, place),
+            params: Vec::new(alloc),
+        },
+        locals: Vec::new(alloc),
+        block: Block { stmts },
+    }
 }
 
 #[test]
-fn no_chain_of_calls_is_too_long(rt: HostRuntime) -> Result<(), Fail> {
-    let mut passive = Vec::new(rt.alloc());
+fn no_chain_of_calls_is_too_long(rt: HostRuntime) {
+    let mut ops = Vec::new(rt.alloc());
     let mut owners = Vec::new(rt.alloc());
     for place in 0..15000_usize {
-        let mut stmts = Vec::new(rt.alloc());
-        if place == 14999 {
-            stmts.push(Stmt::Put(Expr::Number(7)))?;
-        } else {
-            stmts.push(Stmt::Call {
-                object: name(&rt, "p")?,
-                op: link(&rt, place + 1)?,
-                actuals: Vec::new(rt.alloc()),
-            })?;
-        }
-        passive.push(OpText {
-            sig: OpSig {
-                name: link(&rt, place)?,
-                params: Vec::new(rt.alloc()),
-            },
-            locals: Vec::new(rt.alloc()),
-            block: Block { stmts },
-        })?;
-        owners.push(name(&rt, "p")?)?;
+        ops.push(chain_op(&rt, rt.alloc(), place))
+            .expect(&rt, "memory");
+        owners
+            .push(name(&rt, rt.alloc(), "p"))
+            .expect(&rt, "memory");
     }
     let mut env = Env {
         slots: Vec::new(rt.alloc()),
     };
-    let chain = block(&rt, "p.faaa; end")?;
-    let answer = if owners.len() == passive.len() {
-        follow(
-            rt.alloc(),
-            &chain,
-            &COSTS,
-            passive.as_slice(),
-            owners.as_slice(),
-            &[],
-            &[],
-            &mut env,
-            &[Action::Print(7)],
-        )?
-    } else {
-        Followed::Short
-    };
-    assert_eq!(rt;
-        answer,
-        Followed::Done {
-            low: 30001,
-            high: 30001
-        }
+    let answer = followed(
+        &rt,
+        rt.alloc(),
+        &block(&rt, rt.alloc(), "p.faaa; end"),
+        (&ops, &owners),
+        &[],
+        &[],
+        &mut env,
+        &[Action::Print(7)],
     );
-    Ok(())
+    let wanted = Followed::Done {
+        low: 30001,
+        high: 30001,
+    };
+    check_same(&rt, &answer, &wanted, "a chain of calls");
 }

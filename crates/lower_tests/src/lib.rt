@@ -17,6 +17,8 @@ mod follows;
 #[cfg(test)]
 mod linking;
 #[cfg(test)]
+mod looks;
+#[cfg(test)]
 mod openings;
 #[cfg(test)]
 mod queues;

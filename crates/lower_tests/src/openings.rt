@@ -3,6 +3,7 @@
 ghost use Rattle.std.specs.Prelude.{◌≡◌, false};
 ghost use Rattle.ceil_runtime.specs.Shown.{IsWhole, running_of};
 
+use super::looks::check_that;
 use ada_read::read_ada;
 use arrivals_read::read_arrivals;
 use ceil_runtime::{EventBuf, Machine, Turn};
@@ -167,7 +168,8 @@ fn walk(rt: &impl Abort, host: &HostRuntime, machine: Machine<'_>) -> Result<(),
         }
         let (_, wanted) = line.split_once(": ").unwrap_or(("", line));
         if wanted != "in effects" {
-            assert_eq!(rt; first(host, running.queues())?.as_str(), wanted, "{line}");
+            let found = first(host, running.queues())?;
+            check_that(rt, found.as_str() == wanted, line);
         }
     }
     Ok(())
@@ -179,6 +181,11 @@ fn queues_show_the_ready_and_the_sleeping_tasks(rt: HostRuntime) -> Result<(), F
     let arrivals = read_arrivals(rt.alloc(), b"UNTIL 41;", &program)?;
     let machine = Machine::new(rt.alloc(), &program, &arrivals)?;
     // No task is ready at the opening: `z` sleeps until 0, before `x` and `y`.
-    assert_eq!(rt; first(&rt, machine.queues())?.as_str(), "None Some(0)");
+    let found = first(&rt, machine.queues())?;
+    check_that(
+        &rt,
+        found.as_str() == "None Some(0)",
+        "the queues at the opening",
+    );
     walk(&rt, &rt, machine)
 }

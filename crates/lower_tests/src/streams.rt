@@ -1,40 +1,64 @@
 //! The system's files, streams and words: that the adapters over them hand on what is there, whole and in order.
 
+use super::looks::{check_same, check_that};
 use hood_io::{ErrSink, Failed, Fetched, FileShelf, Shelf, StreamSink, given_words, put_all};
 use std::alloc::Global;
 use std::env::{Env, FillError};
 use std::fs::{self, File};
 use std::io::{self, Read, Write};
+use std::process::Abort;
 use std::test::Fail;
 
+/// Fetches a file up to this many bytes, and looks at the answer and at what is read.
+fn check_fetch(
+    rt: &impl Abort,
+    alloc: Global,
+    shelf: &mut impl Shelf,
+    into: &mut Vec<u8>,
+    name: &str,
+    limit: usize,
+    answer: Fetched,
+    read: &[u8],
+) {
+    let fetched = shelf.fetch(alloc, name, limit, into);
+    check_same(rt, &fetched, &answer, name);
+    check_that(rt, into.as_slice() == read, name);
+}
+
 #[test]
-fn a_file_is_read_up_to_its_limit(rt: HostRuntime) -> Result<(), Fail> {
+fn a_file_is_read_up_to_its_limit(rt: HostRuntime) {
     let file = "lower_tests_file";
     let text = b"12345678".as_slice();
-    fs::write(&rt, file, text)?;
+    fs::write(&rt, file, text).expect(&rt, "a file");
     let mut shelf = FileShelf::new(&rt);
-    let mut into = Vec::from_slice(rt.alloc(), b"before")?;
+    let mut into = Vec::from_slice(rt.alloc(), b"before").expect(&rt, "memory");
     for (name, limit, answer, read) in [
         (file, 8, Fetched::Done, text),
         (file, 7, Fetched::TooLong, text),
         ("lower_tests_absent", 8, Fetched::Failed, b""),
     ] {
-        let fetched = shelf.fetch(rt.alloc(), name, limit, &mut into);
-        assert_eq!(rt; fetched, answer, "{name} {limit}");
-        assert_eq!(rt; into.as_slice(), read, "{name} {limit}");
+        check_fetch(
+            &rt,
+            rt.alloc(),
+            &mut shelf,
+            &mut into,
+            name,
+            limit,
+            answer,
+            read,
+        );
     }
-    fs::remove_file(&rt, file)?;
-    Ok(())
+    fs::remove_file(&rt, file).expect(&rt, "a file");
 }
 
 /// A file of more than half of a design's limit, which no one read gives whole.
 #[test]
-fn a_long_file_is_read_whole(rt: HostRuntime) -> Result<(), Fail> {
+fn a_long_file_is_read_whole(rt: HostRuntime) {
     let file = "lower_tests_long_file";
     let mut text = Vec::new(rt.alloc());
-    text.resize(600_000, b'x')?;
-    text.push(b'y')?;
-    fs::write(&rt, file, text.as_slice())?;
+    text.resize(600_000, b'x').expect(&rt, "memory");
+    text.push(b'y').expect(&rt, "memory");
+    fs::write(&rt, file, text.as_slice()).expect(&rt, "a file");
     let mut shelf = FileShelf::new(&rt);
     let mut into = Vec::new(rt.alloc());
     for (limit, answer) in [
@@ -42,12 +66,18 @@ fn a_long_file_is_read_whole(rt: HostRuntime) -> Result<(), Fail> {
         (600_001, Fetched::Done),
         (600_000, Fetched::TooLong),
     ] {
-        let fetched = shelf.fetch(rt.alloc(), file, limit, &mut into);
-        assert_eq!(rt; fetched, answer, "{limit}");
-        assert!(rt; into.as_slice() == text.as_slice(), "{limit}");
+        check_fetch(
+            &rt,
+            rt.alloc(),
+            &mut shelf,
+            &mut into,
+            file,
+            limit,
+            answer,
+            &text,
+        );
     }
-    fs::remove_file(&rt, file)?;
-    Ok(())
+    fs::remove_file(&rt, file).expect(&rt, "a file");
 }
 
 /// A stream that takes at most three bytes of a piece, and none where it has no room left.
@@ -71,9 +101,27 @@ impl Write for Narrow {
     }
 }
 
+/// Puts a text to a stream with this room, and looks at the answer and at what the stream holds.
+fn check_put(
+    rt: &impl Abort,
+    alloc: Global,
+    text: &[u8],
+    room: usize,
+    answer: Result<(), Failed>,
+    held: &[u8],
+) {
+    let mut stream = Narrow {
+        held: Vec::new(alloc),
+        room,
+    };
+    let put = put_all(&mut StreamSink::new(&mut stream), text);
+    check_same(rt, &put, &answer, "the answer");
+    check_that(rt, stream.held.as_slice() == held, "what the stream holds");
+}
+
 /// Each piece that a stream takes in part is followed by the rest, and what is told as written is what the stream holds.
 #[test]
-fn a_stream_that_takes_a_part_gets_the_rest(rt: HostRuntime) -> Result<(), Fail> {
+fn a_stream_that_takes_a_part_gets_the_rest(rt: HostRuntime) {
     let text = b"12345678".as_slice();
     for (room, answer, held) in [
         (9, Ok(()), text),
@@ -82,43 +130,51 @@ fn a_stream_that_takes_a_part_gets_the_rest(rt: HostRuntime) -> Result<(), Fail>
         (3, Err(Failed), b"123"),
         (0, Err(Failed), b""),
     ] {
-        let mut stream = Narrow {
-            held: Vec::new(rt.alloc()),
-            room,
-        };
-        let put = put_all(&mut StreamSink::new(&mut stream), text);
-        assert_eq!(rt; put, answer, "{room}");
-        assert_eq!(rt; stream.held.as_slice(), held, "{room}");
+        check_put(&rt, rt.alloc(), text, room, answer, held);
     }
-    Ok(())
 }
 
 #[test]
-fn a_pipe_gets_a_text(rt: HostRuntime) -> Result<(), Fail> {
-    let (reader, writer) = io::pipe(&rt)?;
+fn a_pipe_gets_a_text(rt: HostRuntime) {
+    let (reader, writer) = io::pipe(&rt).expect(&rt, "a pipe");
     let mut reader = reader;
     let mut sink = StreamSink::new(writer);
-    assert_eq!(rt; put_all(&mut sink, b"to a pipe\n"), Ok(()));
+    check_same(&rt, &put_all(&mut sink, b"to a pipe\n"), &Ok(()), "a pipe");
     drop(sink);
     let mut held = Vec::new(rt.alloc());
-    reader.read_to_end(&mut held)?;
-    assert_eq!(rt; held.as_slice(), b"to a pipe\n".as_slice());
-    Ok(())
+    reader.read_to_end(&mut held).expect(&rt, "a pipe");
+    check_that(
+        &rt,
+        held.as_slice() == b"to a pipe\n".as_slice(),
+        "what the pipe gave",
+    );
 }
 
 #[test]
-fn a_full_device_takes_nothing(rt: HostRuntime) -> Result<(), Fail> {
-    let full = File::options().write(true).open(&rt, "/dev/full")?;
+fn a_full_device_takes_nothing(rt: HostRuntime) {
+    let full = File::options()
+        .write(true)
+        .open(&rt, "/dev/full")
+        .expect(&rt, "a file");
     let mut sink = StreamSink::new(full);
-    assert_eq!(rt; put_all(&mut sink, b"to a full device\n"), Err(Failed));
-    assert_eq!(rt; put_all(&mut sink, b""), Ok(()));
-    Ok(())
+    check_same(
+        &rt,
+        &put_all(&mut sink, b"to a full device\n"),
+        &Err(Failed),
+        "a text",
+    );
+    check_same(&rt, &put_all(&mut sink, b""), &Ok(()), "nothing");
 }
 
 #[test]
 fn standard_error_takes_a_text(rt: HostRuntime) {
     let mut err = ErrSink::new(rt.stderr());
-    assert_eq!(rt; put_all(&mut err, b"to standard error\n"), Ok(()));
+    check_same(
+        &rt,
+        &put_all(&mut err, b"to standard error\n"),
+        &Ok(()),
+        "a text",
+    );
 }
 
 /// A command line: the program's name, and its words.
@@ -146,13 +202,13 @@ impl Env for Line {
 }
 
 /// The words of a command line, with a semicolon behind each.
-fn told_words(alloc: Global, line: &Line) -> Result<String, Fail> {
+fn told_words(rt: &impl Abort, alloc: Global, line: &Line) -> String {
     let mut told = String::new(alloc);
-    for word in &given_words(line, alloc)? {
-        told.push_str(word)?;
-        told.push_str(";")?;
+    for word in &given_words(line, alloc).expect(rt, "memory") {
+        told.push_str(word).expect(rt, "memory");
+        told.push_str(";").expect(rt, "memory");
     }
-    Ok(told)
+    told
 }
 
 /// Command lines, and their words.
@@ -166,10 +222,9 @@ const LINES: &[(&[&[u8]], &str)] = &[
 ];
 
 #[test]
-fn the_words_are_those_behind_the_name(rt: HostRuntime) -> Result<(), Fail> {
+fn the_words_are_those_behind_the_name(rt: HostRuntime) {
     for (line, wanted) in LINES {
-        let told = told_words(rt.alloc(), &Line(line))?;
-        assert_eq!(rt; told.as_str(), *wanted, "{wanted}");
+        let told = told_words(&rt, rt.alloc(), &Line(line));
+        check_that(&rt, told.as_str() == *wanted, wanted);
     }
-    Ok(())
 }

@@ -4,7 +4,6 @@ use super::rows::{check_told, judge, lines, row_text, run_table};
 use super::verifies::{VERIFIED, traces};
 use std::alloc::Global;
 use std::process::Abort;
-use std::test::Fail;
 
 /// What rows of a thread that starts another have.
 const STARTED: &str = "words: accepts d r t
@@ -186,12 +185,12 @@ const UNJUDGED: &[&str] = &[
 ];
 
 #[test]
-fn traces_of_a_start(rt: HostRuntime) -> Result<(), Fail> {
+fn traces_of_a_start(rt: HostRuntime) {
     run_table(&rt, rt.alloc(), STARTED, JUDGED)
 }
 
 #[test]
-fn traces_of_an_object(rt: HostRuntime) -> Result<(), Fail> {
+fn traces_of_an_object(rt: HostRuntime) {
     run_table(&rt, rt.alloc(), SHARED, ENTERED)
 }
 
@@ -201,7 +200,7 @@ const BEFORE: &str = "words: accepts d r t
     status: refused";
 
 #[test]
-fn what_goes_before_a_trace(rt: HostRuntime) -> Result<(), Fail> {
+fn what_goes_before_a_trace(rt: HostRuntime) {
     run_table(&rt, rt.alloc(), BEFORE, UNJUDGED)
 }
 
@@ -226,7 +225,7 @@ const LONG: &[&str] = &[
 ];
 
 #[test]
-fn traces_that_are_too_long(rt: HostRuntime) -> Result<(), Fail> {
+fn traces_that_are_too_long(rt: HostRuntime) {
     run_table(&rt, rt.alloc(), BEFORE, LONG)
 }
 
@@ -242,20 +241,18 @@ fn line_count(text: &[u8]) -> usize {
 }
 
 /// Looks whether the trace that `verify` writes of a row's design is accepted.
-fn check_accepted(rt: &impl Abort, alloc: Global, given: &str) -> Result<(), Fail> {
-    let row = row_text(alloc, given, VERIFIED)?;
-    let trace = lines(alloc, &row, "out")?;
-    let told = judge(alloc, &row, &trace)?;
-    let out = format!(in alloc; "yes lines {}\n", line_count(&trace))?;
+fn check_accepted(rt: &impl Abort, alloc: Global, given: &str) {
+    let row = row_text(rt, alloc, given, VERIFIED);
+    let trace = lines(rt, alloc, &row, "out");
+    let told = judge(rt, alloc, &row, &trace);
+    let out = format!(in alloc; "yes lines {}\n", line_count(&trace)).expect(rt, "memory");
     check_told(rt, &told, "done", out.as_bytes(), b"", given);
-    Ok(())
 }
 
 /// The trace of each design that is verified, the mine pump among them, is accepted.
 #[test]
-fn what_verify_writes_is_accepted(rt: HostRuntime) -> Result<(), Fail> {
+fn what_verify_writes_is_accepted(rt: HostRuntime) {
     for given in traces() {
-        check_accepted(&rt, rt.alloc(), given)?;
+        check_accepted(&rt, rt.alloc(), given);
     }
-    Ok(())
 }

@@ -1,7 +1,6 @@
 //! Designs whose bounds and ceilings are computed.
 
 use super::rows::run_table;
-use std::test::Fail;
 
 /// What rows of designs that keep their limits have.
 const KEPT: &str = "words: analyse d
@@ -156,13 +155,13 @@ const LONG: &[&str] = &[
 ];
 
 #[test]
-fn designs_are_analysed(rt: HostRuntime) -> Result<(), Fail> {
+fn designs_are_analysed(rt: HostRuntime) {
     let alloc = rt.alloc();
-    run_table(&rt, alloc, KEPT, by_deadline())?;
-    run_table(&rt, alloc, KEPT, BOUNDS)?;
-    run_table(&rt, alloc, KEPT, STARTS)?;
-    run_table(&rt, alloc, KEPT, DESIGNS)?;
-    run_table(&rt, alloc, REFUSED, MISSES)?;
-    run_table(&rt, alloc, REFUSED, untaken())?;
+    run_table(&rt, alloc, KEPT, by_deadline());
+    run_table(&rt, alloc, KEPT, BOUNDS);
+    run_table(&rt, alloc, KEPT, STARTS);
+    run_table(&rt, alloc, KEPT, DESIGNS);
+    run_table(&rt, alloc, REFUSED, MISSES);
+    run_table(&rt, alloc, REFUSED, untaken());
     run_table(&rt, alloc, REFUSED, LONG)
 }

@@ -3,7 +3,6 @@
 use super::replays::{REFUSED, REPLAYED};
 use super::rows::{check_replay, lines, row_text, run_table};
 use super::texts::ada_text;
-use std::test::Fail;
 
 /// Requests from outside, and what they release.
 const REQUESTS: &[&str] = &[
@@ -269,27 +268,26 @@ const UNREAD: &[&str] = &[
 ];
 
 #[test]
-fn arrivals_are_kept(rt: HostRuntime) -> Result<(), Fail> {
+fn arrivals_are_kept(rt: HostRuntime) {
     let alloc = rt.alloc();
-    run_table(&rt, alloc, REPLAYED, REQUESTS)?;
+    run_table(&rt, alloc, REPLAYED, REQUESTS);
     run_table(&rt, alloc, REPLAYED, DURATIONS)
 }
 
 #[test]
-fn arrivals_are_refused(rt: HostRuntime) -> Result<(), Fail> {
+fn arrivals_are_refused(rt: HostRuntime) {
     let alloc = rt.alloc();
-    run_table(&rt, alloc, REFUSED, REFUSED_ITEMS)?;
+    run_table(&rt, alloc, REFUSED, REFUSED_ITEMS);
     run_table(&rt, alloc, REFUSED, UNREAD)
 }
 
 /// A processor that counts each tick does not end this in time: it is 1,000,000,000,000 of them.
 #[test]
-fn idle_ticks_take_no_time(rt: HostRuntime) -> Result<(), Fail> {
+fn idle_ticks_take_no_time(rt: HostRuntime) {
     let alloc = rt.alloc();
-    let ada = ada_text(alloc, &row_text(alloc, LONGEST, REPLAYED)?)?;
-    let wanted = lines(alloc, LONGEST, "out")?;
+    let ada = ada_text(&rt, alloc, &row_text(&rt, alloc, LONGEST, REPLAYED));
+    let wanted = lines(&rt, alloc, LONGEST, "out");
     for _ in 0..1000_u32 {
-        check_replay(&rt, alloc, &ada, b"UNTIL 1000000000;", &wanted, LONGEST)?;
+        check_replay(&rt, alloc, &ada, b"UNTIL 1000000000;", &wanted, LONGEST);
     }
-    Ok(())
 }

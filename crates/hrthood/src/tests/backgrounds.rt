@@ -2,7 +2,6 @@
 
 use super::generates::{check_heads, check_texts};
 use super::rows::run_table;
-use std::test::Fail;
 
 /// A hard thread and a client that share an object, and a server that the client calls.
 pub const LOGGED: &str =
@@ -216,24 +215,24 @@ const ELSEWHERE: &[&str] = &[
 ];
 
 #[test]
-fn designs_without_background_objects(rt: HostRuntime) -> Result<(), Fail> {
+fn designs_without_background_objects(rt: HostRuntime) {
     run_table(&rt, rt.alloc(), MADE, OWN)
 }
 
 #[test]
-fn heads_of_background_texts(rt: HostRuntime) -> Result<(), Fail> {
+fn heads_of_background_texts(rt: HostRuntime) {
     check_heads(&rt, rt.alloc(), MADE, HEADS)
 }
 
 #[test]
-fn background_texts_are_replayed(rt: HostRuntime) -> Result<(), Fail> {
+fn background_texts_are_replayed(rt: HostRuntime) {
     check_texts(&rt, rt.alloc(), REPLAYED, TRACES)
 }
 
 #[test]
-fn background_designs_that_are_refused(rt: HostRuntime) -> Result<(), Fail> {
+fn background_designs_that_are_refused(rt: HostRuntime) {
     let alloc = rt.alloc();
-    run_table(&rt, alloc, REFUSED, MISFITS)?;
-    run_table(&rt, alloc, REFUSED, OTHERS)?;
+    run_table(&rt, alloc, REFUSED, MISFITS);
+    run_table(&rt, alloc, REFUSED, OTHERS);
     run_table(&rt, alloc, REFUSED, ELSEWHERE)
 }

@@ -4,7 +4,6 @@
 use super::changed_tokens::{CHANGES, exception, line_of_design_fault};
 use super::rows::number;
 use super::units::cut;
-use std::test::Fail;
 
 /// What is done, the place of the token from 0, the line of the fault, and why it is told there. A word that is kept nowhere, as
 /// `version`, is a name where one may stand.
@@ -54,7 +53,6 @@ fn agreeing() -> usize {
 }
 
 #[test]
-fn places_found_by_hand_are_told(rt: HostRuntime) -> Result<(), Fail> {
+fn places_found_by_hand_are_told(rt: HostRuntime) {
     assert_eq!(rt; agreeing(), 30);
-    Ok(())
 }

@@ -9,7 +9,6 @@ use super::rows::{check_told, lines, number, run_file, text};
 use super::units::cut;
 use std::alloc::Global;
 use std::process::Abort;
-use std::test::Fail;
 
 /// The tokens of a text with a passive unit and a task, a space behind each.
 pub const ADA: &str =
@@ -235,37 +234,42 @@ const ARRIVALS_ROW: &str = "kind: arrivals
 /// What is done to a token; replaced, a semicolon stands in its place.
 pub const CHANGES: [&str; 3] = ["cut", "doubled", "replaced"];
 
-/// Adds a token, to which this is done, or nothing.
-fn push_changed(text: &mut Vec<u8>, token: &[u8], change: &str) -> Result<(), Fail> {
+/// What stands in the place of a token to which this is done, and how many times.
+fn changed<'x>(token: &'x [u8], change: &str) -> (&'x [u8], usize) {
     match change {
-        "cut" => {}
-        "doubled" => {
-            text.extend_from_slice(token)?;
-            text.extend_from_slice(token)?;
-        }
-        "replaced" => text.extend_from_slice(b";\n")?,
-        _ => text.extend_from_slice(token)?,
+        "cut" => (token, 0),
+        "doubled" => (token, 2),
+        "replaced" => (b";\n", 1),
+        _ => (token, 1),
     }
-    Ok(())
 }
 
 /// The text of tokens, which have a space behind each, one a line, with this done to the token at a place.
-fn changed_text(alloc: Global, tokens: &str, change: &str, place: usize) -> Result<Vec<u8>, Fail> {
+fn changed_text(
+    rt: &impl Abort,
+    alloc: Global,
+    tokens: &str,
+    change: &str,
+    place: usize,
+) -> Vec<u8> {
     let mut text = Vec::new(alloc);
     let mut token = Vec::new(alloc);
     let mut index = 0_usize;
     for byte in tokens.as_bytes() {
         if *byte != b' ' {
-            token.push(*byte)?;
+            token.push(*byte).expect(rt, "memory");
             continue;
         }
-        token.push(b'\n')?;
+        token.push(b'\n').expect(rt, "memory");
         let here = if index == place { change } else { "" };
-        push_changed(&mut text, &token, here)?;
+        let (piece, count) = changed(&token, here);
+        for _ in 0..count {
+            text.extend_from_slice(piece).expect(rt, "memory");
+        }
         token.clear();
         index = index.saturating_add(1);
     }
-    Ok(text)
+    text
 }
 
 /// What a row's exceptions say of this done to the token at a place; empty where it is none of them.
@@ -295,48 +299,35 @@ pub fn line_of_design_fault(change: &str, place: usize) -> usize {
 }
 
 /// The line that refuses a row's text with this done to the token at a place; empty where it is taken.
-fn refusal(alloc: Global, row: &str, change: &str, place: usize) -> Result<String, Fail> {
+fn refusal(rt: &impl Abort, alloc: Global, row: &str, change: &str, place: usize) -> String {
     let said = exception(row, change, place);
     if said == "taken" {
-        return Ok(String::new(alloc));
+        return String::new(alloc);
     }
     if said.starts_with("refused") {
-        return Ok(format!(in alloc; "{said}\n")?);
+        return format!(in alloc; "{said}\n").expect(rt, "memory");
     }
     let file = text(row, "file");
     let line = line_of_fault(said, change, place);
-    Ok(format!(in alloc; "refused S1 {file} line {line} column 1\n")?)
+    format!(in alloc; "refused S1 {file} line {line} column 1\n").expect(rt, "memory")
 }
 
 /// Looks at what is told of a changed text of a row, which is refused with this line, or taken where it is empty.
-fn check_changed(
-    rt: &impl Abort,
-    alloc: Global,
-    row: &str,
-    changed: &[u8],
-    refusal: &str,
-) -> Result<(), Fail> {
-    let taken = lines(alloc, row, "out")?;
-    let told = run_file(alloc, text(row, "kind"), changed)?;
+fn check_changed(rt: &impl Abort, alloc: Global, row: &str, changed: &[u8], refusal: &str) {
+    let taken = lines(rt, alloc, row, "out");
+    let told = run_file(rt, alloc, text(row, "kind"), changed);
     if refusal.is_empty() {
         check_told(rt, &told, "done", &taken, b"", row);
     } else {
         check_told(rt, &told, "refused", b"", refusal.as_bytes(), refusal);
     }
-    Ok(())
 }
 
 /// Looks at what is told of a row's text with this done to the token at a place. It is taken where a semicolon stands in place of one.
-fn check_token(
-    rt: &impl Abort,
-    alloc: Global,
-    row: &str,
-    change: &str,
-    place: usize,
-) -> Result<(), Fail> {
+fn check_token(rt: &impl Abort, alloc: Global, row: &str, change: &str, place: usize) {
     let tokens = text(row, "tokens");
-    let whole = changed_text(alloc, tokens, "", place)?;
-    let changed = changed_text(alloc, tokens, change, place)?;
+    let whole = changed_text(rt, alloc, tokens, "", place);
+    let changed = changed_text(rt, alloc, tokens, change, place);
     if changed == whole {
         return check_changed(rt, alloc, row, &changed, "");
     }
@@ -345,36 +336,35 @@ fn check_token(
         alloc,
         row,
         &changed,
-        &refusal(alloc, row, change, place)?,
+        &refusal(rt, alloc, row, change, place),
     )
 }
 
 /// Looks at what is told of a row's text with each of its tokens changed.
-fn check_tokens(rt: &impl Abort, alloc: Global, row: &str) -> Result<(), Fail> {
+fn check_tokens(rt: &impl Abort, alloc: Global, row: &str) {
     for change in CHANGES {
         for place in number(text(row, "first"))..number(text(row, "end")) {
-            check_token(rt, alloc, row, change, place)?;
+            check_token(rt, alloc, row, change, place);
         }
     }
-    Ok(())
 }
 
 #[test]
-fn each_token_of_an_ada_text_changed(rt: HostRuntime) -> Result<(), Fail> {
+fn each_token_of_an_ada_text_changed(rt: HostRuntime) {
     check_tokens(&rt, rt.alloc(), ADA_ROW)
 }
 
 #[test]
-fn each_token_of_units_of_every_kind_changed(rt: HostRuntime) -> Result<(), Fail> {
+fn each_token_of_units_of_every_kind_changed(rt: HostRuntime) {
     check_tokens(&rt, rt.alloc(), UNITS_ROW)
 }
 
 #[test]
-fn each_token_of_a_design_changed(rt: HostRuntime) -> Result<(), Fail> {
+fn each_token_of_a_design_changed(rt: HostRuntime) {
     check_tokens(&rt, rt.alloc(), DESIGN_ROW)
 }
 
 #[test]
-fn each_token_of_arrivals_changed(rt: HostRuntime) -> Result<(), Fail> {
+fn each_token_of_arrivals_changed(rt: HostRuntime) {
     check_tokens(&rt, rt.alloc(), ARRIVALS_ROW)
 }

@@ -1,7 +1,6 @@
 //! Designs whose rules are checked.
 
 use super::rows::run_table;
-use std::test::Fail;
 
 /// What rows of designs that are taken have.
 const TAKEN: &str = "words: check d
@@ -235,12 +234,12 @@ const BROKEN_ALL_OVER: &[&str] = &[
 ];
 
 #[test]
-fn designs_are_checked(rt: HostRuntime) -> Result<(), Fail> {
+fn designs_are_checked(rt: HostRuntime) {
     let alloc = rt.alloc();
-    run_table(&rt, alloc, TAKEN, ACCEPTED)?;
-    run_table(&rt, alloc, REFUSED, BROKEN_STRUCTURES)?;
-    run_table(&rt, alloc, REFUSED, BROKEN_CALLS)?;
-    run_table(&rt, alloc, REFUSED, BROKEN_BODIES)?;
-    run_table(&rt, alloc, REFUSED, BROKEN_VERSIONS)?;
+    run_table(&rt, alloc, TAKEN, ACCEPTED);
+    run_table(&rt, alloc, REFUSED, BROKEN_STRUCTURES);
+    run_table(&rt, alloc, REFUSED, BROKEN_CALLS);
+    run_table(&rt, alloc, REFUSED, BROKEN_BODIES);
+    run_table(&rt, alloc, REFUSED, BROKEN_VERSIONS);
     run_table(&rt, alloc, REFUSED, BROKEN_ALL_OVER)
 }

@@ -5,7 +5,6 @@ use super::rows::{check_replay, check_that, check_told, requested_text, row_text
 use super::texts::{TRACE, beside, text_named};
 use std::alloc::Global;
 use std::process::Abort;
-use std::test::Fail;
 
 /// Designs by their names, and how many tokens each has: of one object, of an object of every kind, and of version 2 with links and every
 /// statement.
@@ -51,7 +50,7 @@ fn begins_token(before: u8, byte: u8) -> bool {
 }
 
 /// What stands before each token of a text.
-fn fronts<'x>(alloc: Global, text: &'x [u8]) -> Result<Vec<&'x [u8]>, Fail> {
+fn fronts<'x>(rt: &impl Abort, alloc: Global, text: &'x [u8]) -> Vec<&'x [u8]> {
     let mut fronts = Vec::new(alloc);
     let mut before = b'\n';
     let mut is_comment = false;
@@ -60,21 +59,23 @@ fn fronts<'x>(alloc: Global, text: &'x [u8]) -> Result<Vec<&'x [u8]>, Fail> {
         let byte = back.first().copied().unwrap_or(b'\n');
         is_comment = byte != b'\n' && (is_comment || back.starts_with(b"--"));
         if !is_comment && begins_token(before, byte) {
-            fronts.push(front)?;
+            fronts.push(front).expect(rt, "memory");
         }
         before = byte;
     }
-    Ok(fronts)
+    fronts
 }
 
 /// The text with a byte of value 0 at this place.
-fn zeroed(alloc: Global, text: &[u8], place: usize) -> Result<Vec<u8>, Fail> {
+fn zeroed(rt: &impl Abort, alloc: Global, text: &[u8], place: usize) -> Vec<u8> {
     let mut bytes = Vec::new(alloc);
     for byte in text {
         let is_place = bytes.len() == place;
-        bytes.push(if is_place { 0 } else { *byte })?;
+        bytes
+            .push(if is_place { 0 } else { *byte })
+            .expect(rt, "memory");
     }
-    Ok(bytes)
+    bytes
 }
 
 /// The name of a file of this kind in a refusal: a command line reads a design.
@@ -86,7 +87,7 @@ fn file_of<'x>(kind: &'x str) -> &'x str {
 }
 
 /// The line that refuses a file of this kind at the place behind these bytes: lines and columns count from 1, and a line ends with a line feed.
-fn refusal(alloc: Global, code: &str, kind: &str, front: &[u8]) -> Result<String, Fail> {
+fn refusal(rt: &impl Abort, alloc: Global, code: &str, kind: &str, front: &[u8]) -> String {
     let mut line = 1_usize;
     let mut column = 1_usize;
     for byte in front {
@@ -97,7 +98,7 @@ fn refusal(alloc: Global, code: &str, kind: &str, front: &[u8]) -> Result<String
         }
     }
     let file = file_of(kind);
-    Ok(format!(in alloc; "refused {code} {file} line {line} column {column}\n")?)
+    format!(in alloc; "refused {code} {file} line {line} column {column}\n").expect(rt, "memory")
 }
 
 /// Looks at what is told of a file of this kind that is refused with this code behind a front.
@@ -108,11 +109,10 @@ fn check_refused(
     code: &str,
     bytes: &[u8],
     front: &[u8],
-) -> Result<(), Fail> {
-    let refusal = refusal(alloc, code, kind, front)?;
-    let told = run_file(alloc, kind, bytes)?;
+) {
+    let refusal = refusal(rt, alloc, code, kind, front);
+    let told = run_file(rt, alloc, kind, bytes);
     check_told(rt, &told, "refused", b"", refusal.as_bytes(), &refusal);
-    Ok(())
 }
 
 /// What a replay tells under a front of the arrivals that is a whole file; empty where it is none.
@@ -121,75 +121,55 @@ fn whole(front: &[u8]) -> &'static str {
 }
 
 /// Looks at what is told of a file that is cut off behind a front.
-fn check_front(rt: &impl Abort, alloc: Global, kind: &str, front: &[u8]) -> Result<(), Fail> {
+fn check_front(rt: &impl Abort, alloc: Global, kind: &str, front: &[u8]) {
     let trace = whole(front);
     if trace.is_empty() {
         return check_refused(rt, alloc, kind, "S1", front, front);
     }
-    let ada = requested_text(alloc)?;
+    let ada = requested_text(rt, alloc);
     check_replay(rt, alloc, &ada, front, trace.as_bytes(), trace)
 }
 
 /// Looks at what is told of a file that has a byte of value 0 behind a front.
-fn check_zeroed(
-    rt: &impl Abort,
-    alloc: Global,
-    kind: &str,
-    bytes: &[u8],
-    front: &[u8],
-) -> Result<(), Fail> {
-    let zeroed = zeroed(alloc, bytes, front.len())?;
+fn check_zeroed(rt: &impl Abort, alloc: Global, kind: &str, bytes: &[u8], front: &[u8]) {
+    let zeroed = zeroed(rt, alloc, bytes, front.len());
     check_refused(rt, alloc, kind, "L1", &zeroed, front)
 }
 
 /// Looks at what is told of a file, of which so many tokens are found, damaged at each of them.
-fn check_damaged(
-    rt: &impl Abort,
-    alloc: Global,
-    kind: &str,
-    bytes: &[u8],
-    tokens: usize,
-) -> Result<(), Fail> {
-    let fronts = fronts(alloc, bytes)?;
+fn check_damaged(rt: &impl Abort, alloc: Global, kind: &str, bytes: &[u8], tokens: usize) {
+    let fronts = fronts(rt, alloc, bytes);
     check_that(rt, fronts.len() == tokens, kind);
     for front in &fronts {
-        check_front(rt, alloc, kind, front)?;
-        check_zeroed(rt, alloc, kind, bytes, front)?;
+        check_front(rt, alloc, kind, front);
+        check_zeroed(rt, alloc, kind, bytes, front);
     }
-    Ok(())
 }
 
 /// Looks at what is told of each text of a table, which has their names, damaged at each of its tokens.
-fn check_table(
-    rt: &impl Abort,
-    alloc: Global,
-    kind: &str,
-    table: &[(&str, usize)],
-) -> Result<(), Fail> {
-    let row = row_text(alloc, "", "")?;
+fn check_table(rt: &impl Abort, alloc: Global, kind: &str, table: &[(&str, usize)]) {
+    let row = row_text(rt, alloc, "", "");
     for (name, tokens) in table {
-        let bytes = text_named(alloc, &row, name)?;
-        check_damaged(rt, alloc, kind, &bytes, *tokens)?;
+        let bytes = text_named(rt, alloc, &row, name);
+        check_damaged(rt, alloc, kind, &bytes, *tokens);
     }
-    Ok(())
 }
 
 /// For each token of each design, of which all are found: with the text cut off before it, `check`, `format` and `analyse` end with the
 /// status of a refusal and nothing on standard output, and tell S1 behind the last byte that is left; with a byte of value 0 in its place
 /// they tell L1 at that byte.
 #[test]
-fn designs_damaged_at_each_token(rt: HostRuntime) -> Result<(), Fail> {
+fn designs_damaged_at_each_token(rt: HostRuntime) {
     for line in ["check d", "format d", "analyse d"] {
-        check_table(&rt, rt.alloc(), line, DESIGNS)?;
+        check_table(&rt, rt.alloc(), line, DESIGNS);
     }
-    Ok(())
 }
 
 /// For each token of each Ada text, of which all are found: with the text cut off before it, `replay` ends with the status of a refusal
 /// and nothing on standard output, and tells S1 behind the last byte that is left; with a byte of value 0 in its place it tells L1 at that
 /// byte.
 #[test]
-fn ada_texts_damaged_at_each_token(rt: HostRuntime) -> Result<(), Fail> {
+fn ada_texts_damaged_at_each_token(rt: HostRuntime) {
     check_table(&rt, rt.alloc(), "ada", TEXTS)
 }
 
@@ -197,9 +177,9 @@ fn ada_texts_damaged_at_each_token(rt: HostRuntime) -> Result<(), Fail> {
 /// refusal and nothing on standard output, and tells S1 behind the last byte that is left, but replays under what is a whole file; with a
 /// byte of value 0 in its place it tells L1 at that byte.
 #[test]
-fn arrivals_damaged_at_each_token(rt: HostRuntime) -> Result<(), Fail> {
+fn arrivals_damaged_at_each_token(rt: HostRuntime) {
     let alloc = rt.alloc();
-    check_damaged(&rt, alloc, "arrivals", b"UNTIL 20; WORK a 1;", 7)?;
+    check_damaged(&rt, alloc, "arrivals", b"UNTIL 20; WORK a 1;", 7);
     let requested = b"UNTIL 20;\nWORK a 1, 2;\nAT 6 s 7;\n";
     check_damaged(&rt, alloc, "arrivals", requested, 14)
 }

@@ -1,7 +1,6 @@
 //! Texts of designs, and designs that are refused.
 
 use super::rows::run_table;
-use std::test::Fail;
 
 /// What rows of designs of which a text is made have.
 const MADE: &str = "words: generate d
@@ -122,9 +121,9 @@ const REFUSED_OBJECTS: &[&str] = &[
 ];
 
 #[test]
-fn designs_are_written_or_refused(rt: HostRuntime) -> Result<(), Fail> {
+fn designs_are_written_or_refused(rt: HostRuntime) {
     let alloc = rt.alloc();
-    run_table(&rt, alloc, MADE, TEXTS)?;
-    run_table(&rt, alloc, REFUSED, REFUSED_SOURCES)?;
+    run_table(&rt, alloc, MADE, TEXTS);
+    run_table(&rt, alloc, REFUSED, REFUSED_SOURCES);
     run_table(&rt, alloc, REFUSED, REFUSED_OBJECTS)
 }

@@ -4,7 +4,6 @@ use super::rows::{check_end, check_told, row_text, run_design, run_table};
 use super::shapes::design_bytes;
 use std::alloc::Global;
 use std::process::Abort;
-use std::test::Fail;
 
 /// What rows of designs that are printed have.
 const WRITTEN: &str = "words: format d
@@ -139,27 +138,25 @@ const STEADY: &[&str] = &[
 ];
 
 #[test]
-fn designs_are_printed_or_refused(rt: HostRuntime) -> Result<(), Fail> {
+fn designs_are_printed_or_refused(rt: HostRuntime) {
     let alloc = rt.alloc();
-    run_table(&rt, alloc, REFUSED, NO_DESIGNS)?;
+    run_table(&rt, alloc, REFUSED, NO_DESIGNS);
     run_table(&rt, alloc, WRITTEN, PRINTED)
 }
 
 /// Looks whether what is printed of a row's design is printed the same once more.
-fn check_steady(rt: &impl Abort, alloc: Global, given: &str) -> Result<(), Fail> {
-    let design = design_bytes(alloc, &row_text(alloc, given, "")?)?;
-    let once = run_design(alloc, "format d", &design)?;
+fn check_steady(rt: &impl Abort, alloc: Global, given: &str) {
+    let design = design_bytes(rt, alloc, &row_text(rt, alloc, given, ""));
+    let once = run_design(rt, alloc, "format d", &design);
     let text = once.out.bytes();
     check_end(rt, &once, "done", b"", given);
-    let twice = run_design(alloc, "format d", text)?;
+    let twice = run_design(rt, alloc, "format d", text);
     check_told(rt, &twice, "done", text, b"", given);
-    Ok(())
 }
 
 #[test]
-fn what_is_printed_is_printed_the_same(rt: HostRuntime) -> Result<(), Fail> {
+fn what_is_printed_is_printed_the_same(rt: HostRuntime) {
     for given in STEADY {
-        check_steady(&rt, rt.alloc(), given)?;
+        check_steady(&rt, rt.alloc(), given);
     }
-    Ok(())
 }

@@ -6,7 +6,6 @@ use super::rows::{
 };
 use std::alloc::Global;
 use std::process::Abort;
-use std::test::Fail;
 
 /// What rows of full sinks have: the design of one cyclic object, and its text.
 const USUAL: &str = "arrivals: UNTIL 20;";
@@ -41,52 +40,43 @@ const WRITTEN: &[&str] = &[
 ];
 
 /// Looks at what a row writes into a room that is too small for it, of whose whole text these are the bytes.
-fn check_room(
-    rt: &impl Abort,
-    alloc: Global,
-    row: &str,
-    whole: &[u8],
-    room: usize,
-) -> Result<(), Fail> {
-    let row = format!(in alloc; "room: {room}\n{row}")?;
-    let told = run_row(alloc, &row)?;
+fn check_room(rt: &impl Abort, alloc: Global, row: &str, whole: &[u8], room: usize) {
+    let row = format!(in alloc; "room: {room}\n{row}").expect(rt, "memory");
+    let told = run_row(rt, alloc, &row);
     let out = told.out.bytes();
     check_end(rt, &told, "write fault", b"fault writing\n", &row);
     check_that(rt, out.len() == room && whole.starts_with(out), &row);
-    Ok(())
 }
 
 /// Looks whether a row is told so.
-fn check_same(rt: &impl Abort, alloc: Global, row: &str, whole: &Outcome) -> Result<(), Fail> {
-    let told = run_row(alloc, row)?;
+fn check_same(rt: &impl Abort, alloc: Global, row: &str, whole: &Outcome) {
+    let told = run_row(rt, alloc, row);
     let status = word_of(whole.status);
     check_told(rt, &told, status, whole.out.bytes(), whole.err.bytes(), row);
-    Ok(())
 }
 
 /// Looks at what a row writes into the rooms that it names, or else into each that is too small for it.
-fn check_small(rt: &impl Abort, alloc: Global, row: &str, whole: &[u8]) -> Result<(), Fail> {
+fn check_small(rt: &impl Abort, alloc: Global, row: &str, whole: &[u8]) {
     if let Some(rooms) = value(row, "rooms") {
         for room in rooms.split_whitespace() {
-            check_room(rt, alloc, row, whole, number(room))?;
+            check_room(rt, alloc, row, whole, number(room));
         }
-        return Ok(());
+        return;
     }
     for room in 0..whole.len() {
-        check_room(rt, alloc, row, whole, room)?;
+        check_room(rt, alloc, row, whole, room);
     }
-    Ok(())
 }
 
 /// Looks at what a row writes into rooms that are too small for it, and into one that is just enough.
-fn check_rooms(rt: &impl Abort, alloc: Global, given: &str) -> Result<(), Fail> {
-    let row = row_text(alloc, given, USUAL)?;
-    let whole = run_row(alloc, &row)?;
+fn check_rooms(rt: &impl Abort, alloc: Global, given: &str) {
+    let row = row_text(rt, alloc, given, USUAL);
+    let whole = run_row(rt, alloc, &row);
     let bytes = whole.out.bytes();
     check_that(rt, !bytes.is_empty(), &row);
-    check_small(rt, alloc, &row, bytes)?;
+    check_small(rt, alloc, &row, bytes);
     let room = bytes.len();
-    let row = format!(in alloc; "room: {room}\n{row}")?;
+    let row = format!(in alloc; "room: {room}\n{row}").expect(rt, "memory");
     check_same(rt, alloc, &row, &whole)
 }
 
@@ -94,28 +84,26 @@ fn check_rooms(rt: &impl Abort, alloc: Global, given: &str) -> Result<(), Fail> 
 /// are written, which are the beginning of the whole; the status is that of a fault of writing, and standard error tells that fault. With room
 /// for all, all is as with ample room.
 #[test]
-fn each_room_of_standard_output(rt: HostRuntime) -> Result<(), Fail> {
+fn each_room_of_standard_output(rt: HostRuntime) {
     for given in WRITTEN {
-        check_rooms(&rt, rt.alloc(), given)?;
+        check_rooms(&rt, rt.alloc(), given);
     }
-    Ok(())
 }
 
 /// Looks whether a row is told a byte at a time as at once.
-fn check_pieces(rt: &impl Abort, alloc: Global, given: &str) -> Result<(), Fail> {
-    let row = row_text(alloc, given, USUAL)?;
-    let whole = run_row(alloc, &row)?;
-    let row = format!(in alloc; "most: 1\n{row}")?;
+fn check_pieces(rt: &impl Abort, alloc: Global, given: &str) {
+    let row = row_text(rt, alloc, given, USUAL);
+    let whole = run_row(rt, alloc, &row);
+    let row = format!(in alloc; "most: 1\n{row}").expect(rt, "memory");
     check_same(rt, alloc, &row, &whole)
 }
 
 /// Of each verb, and of a replay that stops: a byte at a time, all is written as at once.
 #[test]
-fn a_byte_at_a_time(rt: HostRuntime) -> Result<(), Fail> {
+fn a_byte_at_a_time(rt: HostRuntime) {
     for given in WRITTEN {
-        check_pieces(&rt, rt.alloc(), given)?;
+        check_pieces(&rt, rt.alloc(), given);
     }
-    Ok(())
 }
 
 /// Runs that tell something on standard error.
@@ -139,22 +127,20 @@ const TOLD: &[&str] = &[
 ];
 
 /// Looks at what a row tells in each room of standard error.
-fn check_err_rooms(rt: &impl Abort, alloc: Global, given: &str) -> Result<(), Fail> {
-    let row = row_text(alloc, given, USUAL)?;
-    let line = lines(alloc, &row, "err")?;
+fn check_err_rooms(rt: &impl Abort, alloc: Global, given: &str) {
+    let row = row_text(rt, alloc, given, USUAL);
+    let line = lines(rt, alloc, &row, "err");
     for room in 0..line.len().saturating_add(1) {
-        let row = format!(in alloc; "err_room: {room}\n{row}")?;
-        check_row(rt, alloc, &row)?;
+        let row = format!(in alloc; "err_room: {room}\n{row}").expect(rt, "memory");
+        check_row(rt, alloc, &row);
     }
-    Ok(())
 }
 
 /// Of a run of each status but that of no memory, in each room of standard error from 0 bytes to the length of its line: the beginning of just
 /// that length is told, and the status and standard output are as with ample room.
 #[test]
-fn each_room_of_standard_error(rt: HostRuntime) -> Result<(), Fail> {
+fn each_room_of_standard_error(rt: HostRuntime) {
     for given in TOLD {
-        check_err_rooms(&rt, rt.alloc(), given)?;
+        check_err_rooms(&rt, rt.alloc(), given);
     }
-    Ok(())
 }

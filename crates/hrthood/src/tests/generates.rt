@@ -7,7 +7,6 @@ use super::texts::{ASKED_BODY, ASKED_SPEC, HRT, MAIN};
 use super::verifies::traces;
 use std::alloc::Global;
 use std::process::Abort;
-use std::test::Fail;
 
 /// A passive, a protected, a cyclic and a sporadic object.
 pub const EVERY_KIND: &str = "DESIGN d IS
@@ -176,36 +175,29 @@ const HEADS: &[&str] = &[
 ];
 
 #[test]
-fn texts_of_designs(rt: HostRuntime) -> Result<(), Fail> {
+fn texts_of_designs(rt: HostRuntime) {
     run_table(&rt, rt.alloc(), MADE, GENERATED)
 }
 
 /// Looks at the head of the text of a row's design, where rows have these keys too.
-fn check_head(rt: &impl Abort, alloc: Global, usual: &str, given: &str) -> Result<(), Fail> {
-    let row = row_text(alloc, given, usual)?;
-    let head = lines(alloc, &row, "out")?;
-    let told = run_row(alloc, &row)?;
+fn check_head(rt: &impl Abort, alloc: Global, usual: &str, given: &str) {
+    let row = row_text(rt, alloc, given, usual);
+    let head = lines(rt, alloc, &row, "out");
+    let told = run_row(rt, alloc, &row);
     let text = told.out.bytes();
     check_end(rt, &told, "done", b"", given);
     check_that(rt, text.starts_with(&head), given);
-    Ok(())
 }
 
 /// Looks at the heads of texts, of a table whose rows have these keys too.
-pub fn check_heads(
-    rt: &impl Abort,
-    alloc: Global,
-    usual: &str,
-    table: &[&str],
-) -> Result<(), Fail> {
+pub fn check_heads(rt: &impl Abort, alloc: Global, usual: &str, table: &[&str]) {
     for given in table {
-        check_head(rt, alloc, usual, given)?;
+        check_head(rt, alloc, usual, given);
     }
-    Ok(())
 }
 
 #[test]
-fn heads_of_texts_of_designs(rt: HostRuntime) -> Result<(), Fail> {
+fn heads_of_texts_of_designs(rt: HostRuntime) {
     check_heads(&rt, rt.alloc(), MADE, HEADS)
 }
 
@@ -229,33 +221,27 @@ const REPLAYED: &[&str] = &[
 ];
 
 /// Makes the text of a row's design, where rows have these keys too, and looks at its replay.
-fn check_made(rt: &impl Abort, alloc: Global, usual: &str, given: &str) -> Result<(), Fail> {
-    let row = row_text(alloc, given, usual)?;
-    let arrivals = arrivals_bytes(alloc, &row)?;
-    let trace = lines(alloc, &row, "out")?;
-    let made = run_row(alloc, &row)?;
+fn check_made(rt: &impl Abort, alloc: Global, usual: &str, given: &str) {
+    let row = row_text(rt, alloc, given, usual);
+    let arrivals = arrivals_bytes(rt, alloc, &row);
+    let trace = lines(rt, alloc, &row, "out");
+    let made = run_row(rt, alloc, &row);
     let text = made.out.bytes();
     check_end(rt, &made, "done", b"", given);
     check_replay(rt, alloc, text, &arrivals, &trace, given)
 }
 
 /// Makes texts and looks at their replays, of a table whose rows have these keys too.
-pub fn check_texts(
-    rt: &impl Abort,
-    alloc: Global,
-    usual: &str,
-    table: &[&str],
-) -> Result<(), Fail> {
+pub fn check_texts(rt: &impl Abort, alloc: Global, usual: &str, table: &[&str]) {
     for given in table {
-        check_made(rt, alloc, usual, given)?;
+        check_made(rt, alloc, usual, given);
     }
-    Ok(())
 }
 
 /// The text of a design that one command writes another replays. Traces of other designs are those that `verify` has of them.
 #[test]
-fn texts_of_designs_are_replayed(rt: HostRuntime) -> Result<(), Fail> {
+fn texts_of_designs_are_replayed(rt: HostRuntime) {
     let alloc = rt.alloc();
-    check_texts(&rt, alloc, GENERATES, REPLAYED)?;
+    check_texts(&rt, alloc, GENERATES, REPLAYED);
     check_texts(&rt, alloc, GENERATES, traces())
 }

@@ -2,20 +2,21 @@
 
 use super::replays::REPLAYED;
 use super::rows::run_table;
-use super::texts::joined;
+use super::texts::{counted, joined};
 use std::alloc::Global;
 use std::process::Abort;
-use std::test::Fail;
 
 /// 400 passive units, of which each calls the next one twice.
-fn doubled(alloc: Global) -> Result<String, Fail> {
-    let mut units = String::new(alloc);
-    for k in 1..400_u32 {
-        let next = k.saturating_add(1);
-        let unit = format!(in alloc; "passive: p{k} f is begin p{next}.f; p{next}.f;\n")?;
-        units.push_str(&unit)?;
-    }
+fn doubled(rt: &impl Abort, alloc: Global) -> String {
+    let units = counted(
+        rt,
+        alloc,
+        1,
+        400,
+        "passive: p{k} f is begin p{next}.f; p{next}.f;\n",
+    );
     joined(
+        rt,
         alloc,
         &[
             "name: calls of more ticks than any horizon\n",
@@ -29,43 +30,20 @@ fn doubled(alloc: Global) -> Result<String, Fail> {
     )
 }
 
-/// 400 protected units, of which each calls the next one.
-fn chain(alloc: Global) -> Result<String, Fail> {
-    let mut units = String::new(alloc);
-    for k in 1..400_u32 {
-        let next = k.saturating_add(1);
-        let unit = format!(in alloc; "protected: p{k} 1 f is begin p{next}.f;\n")?;
-        units.push_str(&unit)?;
-    }
-    Ok(units)
-}
-
-/// The lines of a task that goes down this chain: each call takes two ticks.
-fn enters(alloc: Global) -> Result<String, Fail> {
-    let mut lines = String::new(alloc);
-    for k in 1..401_u32 {
-        let time = k.saturating_mul(2);
-        lines.push_str(&format!(in alloc; "out: {time} enter a p{k}.f\n")?)?;
-    }
-    Ok(lines)
-}
-
-/// Its lines as it comes up again, which takes no tick.
-fn leaves(alloc: Global) -> Result<String, Fail> {
-    let mut lines = String::new(alloc);
-    for k in 1..401_u32 {
-        let place = 401_u32.saturating_sub(k);
-        lines.push_str(&format!(in alloc; "out: 801 leave a p{place}.f\n")?)?;
-    }
-    Ok(lines)
-}
-
-/// A task that holds 400 objects at once.
-fn held(alloc: Global) -> Result<String, Fail> {
-    let units = chain(alloc)?;
-    let enters = enters(alloc)?;
-    let leaves = leaves(alloc)?;
+/// A task that holds 400 protected objects at once, of which each calls the next one. Each call takes two ticks as it goes down the chain,
+/// and it takes none to come up again.
+fn held(rt: &impl Abort, alloc: Global) -> String {
+    let units = counted(
+        rt,
+        alloc,
+        1,
+        400,
+        "protected: p{k} 1 f is begin p{next}.f;\n",
+    );
+    let enters = counted(rt, alloc, 1, 401, "out: {twice} enter a p{k}.f\n");
+    let leaves = counted(rt, alloc, 1, 401, "out: 801 leave a p{left}.f\n");
     joined(
+        rt,
         alloc,
         &[
             "name: sections inside 399 others\n",
@@ -82,29 +60,27 @@ fn held(alloc: Global) -> Result<String, Fail> {
     )
 }
 
-/// 200 activations of three ticks each: an assignment, a test and the end.
-fn activations(alloc: Global) -> Result<String, Fail> {
-    let mut lines = String::new(alloc);
-    for k in 0..200_u32 {
-        let time = k.saturating_mul(10);
-        let end = time.saturating_add(3);
-        let both = format!(in alloc; "out: {time} release a\nout: {end} end a used 3\n")?;
-        lines.push_str(&both)?;
-    }
-    Ok(lines)
-}
-
-/// A task that calls above a ceiling in its activation behind these, whose lines have more than 5,000 bytes.
-fn stopped(alloc: Global) -> Result<String, Fail> {
-    let activations = activations(alloc)?;
+/// A task that calls above a ceiling in its activation behind 200 of three ticks each: an assignment, a test and the end. Their lines have
+/// more than 5,000 bytes.
+fn stopped(rt: &impl Abort, alloc: Global) -> String {
+    let activations = counted(
+        rt,
+        alloc,
+        1,
+        200,
+        "out: {k}0 release a\nout: {k}3 end a used 3\n",
+    );
     joined(
+        rt,
         alloc,
         &[
             "name: a stop behind 200 activations
             protected: q 1 set is begin null;
             cyclic: a 2 0 10 is n : word := 0; begin n := n + 1; if n = 201 then q.set; end if;
             arrivals: UNTIL 5000;
-            status: refused\n",
+            status: refused
+            out: 0 release a
+            out: 3 end a used 3\n",
             &activations,
             "out: 2000 release a
             out: 2004 stop a q priority 2 ceiling 1
@@ -113,14 +89,14 @@ fn stopped(alloc: Global) -> Result<String, Fail> {
     )
 }
 
-fn check_large(rt: &impl Abort, alloc: Global, row: &str) -> Result<(), Fail> {
+fn check_large(rt: &impl Abort, alloc: Global, row: &str) {
     run_table(rt, alloc, REPLAYED, &[row])
 }
 
 #[test]
-fn large_programs_are_run(rt: HostRuntime) -> Result<(), Fail> {
+fn large_programs_are_run(rt: HostRuntime) {
     let alloc = rt.alloc();
-    check_large(&rt, alloc, &doubled(alloc)?)?;
-    check_large(&rt, alloc, &held(alloc)?)?;
-    check_large(&rt, alloc, &stopped(alloc)?)
+    check_large(&rt, alloc, &doubled(&rt, alloc));
+    check_large(&rt, alloc, &held(&rt, alloc));
+    check_large(&rt, alloc, &stopped(&rt, alloc))
 }

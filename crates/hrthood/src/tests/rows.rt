@@ -32,7 +32,6 @@ use hood_io::{MemShelf, MemSink};
 use hrthood_top::{Status, run};
 use std::alloc::Global;
 use std::process::Abort;
-use std::test::Fail;
 
 /// The value of a key in a row: what stands behind the key on its first line, if it has one.
 pub fn value<'a>(row: &'a str, key: &str) -> Option<&'a str> {
@@ -66,41 +65,45 @@ pub fn number(digits: &str) -> usize {
 }
 
 /// The text with spaces behind it, up to the length that the key has, if it is longer.
-pub fn lengthened(alloc: Global, text: &[u8], row: &str, key: &str) -> Result<Vec<u8>, Fail> {
+pub fn lengthened(rt: &impl Abort, alloc: Global, text: &[u8], row: &str, key: &str) -> Vec<u8> {
     let len = number(value(row, key).unwrap_or(""));
-    padded(alloc, text, len.max(text.len()))
+    padded(rt, alloc, text, len.max(text.len()))
 }
 
 /// The lines of a key, each with a line feed behind it.
-pub fn lines(alloc: Global, row: &str, key: &str) -> Result<Vec<u8>, Fail> {
+pub fn lines(rt: &impl Abort, alloc: Global, row: &str, key: &str) -> Vec<u8> {
     let mut all = Vec::new(alloc);
     for line in row.lines() {
         if let Some((name, text)) = line.split_once(':') {
             if name.trim_start() == key {
                 let text = text.strip_prefix(' ').unwrap_or(text);
-                all.extend_from_slice(text.as_bytes())?;
-                all.push(b'\n')?;
+                all.extend_from_slice(text.as_bytes()).expect(rt, "memory");
+                all.push(b'\n').expect(rt, "memory");
             }
         }
     }
-    Ok(all)
+    all
 }
 
 /// The bytes of a row's file `r`.
-pub fn arrivals_bytes(alloc: Global, row: &str) -> Result<Vec<u8>, Fail> {
-    let mut arrivals = lines(alloc, row, "r")?;
+pub fn arrivals_bytes(rt: &impl Abort, alloc: Global, row: &str) -> Vec<u8> {
+    let mut arrivals = lines(rt, alloc, row, "r");
     let _ = arrivals.pop();
     if arrivals.is_empty() {
-        arrivals.extend_from_slice(text(row, "arrivals").as_bytes())?;
+        arrivals
+            .extend_from_slice(text(row, "arrivals").as_bytes())
+            .expect(rt, "memory");
     }
-    lengthened(alloc, &arrivals, row, "arrivals_len")
+    lengthened(rt, alloc, &arrivals, row, "arrivals_len")
 }
 
 /// The bytes of a row's file `t`.
-fn trace_bytes(alloc: Global, row: &str) -> Result<Vec<u8>, Fail> {
-    let mut trace = lines(alloc, row, "t")?;
-    trace.extend_from_slice(text(row, "t_open").as_bytes())?;
-    lengthened(alloc, &trace, row, "t_len")
+fn trace_bytes(rt: &impl Abort, alloc: Global, row: &str) -> Vec<u8> {
+    let mut trace = lines(rt, alloc, row, "t");
+    trace
+        .extend_from_slice(text(row, "t_open").as_bytes())
+        .expect(rt, "memory");
+    lengthened(rt, alloc, &trace, row, "t_len")
 }
 
 /// The part of rows that a row is like.
@@ -112,18 +115,23 @@ fn part<'x>(given: &'x str) -> &'x str {
 }
 
 /// A row of a table whose rows have these keys too, where they don't say otherwise.
-pub fn row_text<'x>(alloc: Global, given: &'x str, usual: &'x str) -> Result<String, Fail> {
-    joined(alloc, &[given, "\n", part(given), "\n", usual, "\n", USUAL])
+pub fn row_text<'x>(rt: &impl Abort, alloc: Global, given: &'x str, usual: &'x str) -> String {
+    joined(
+        rt,
+        alloc,
+        &[given, "\n", part(given), "\n", usual, "\n", USUAL],
+    )
 }
 
 /// The words of a command line, apart from each other by spaces.
-pub fn words(alloc: Global, line: &str) -> Result<Vec<String>, Fail> {
+pub fn words(rt: &impl Abort, alloc: Global, line: &str) -> Vec<String> {
     let mut all = Vec::new(alloc);
     for word in line.split_whitespace() {
         let word = if word == "''" { "" } else { word };
-        all.push(String::from_str(alloc, word)?)?;
+        all.push(String::from_str(alloc, word).expect(rt, "memory"))
+            .expect(rt, "memory");
     }
-    Ok(all)
+    all
 }
 
 /// What a run answers and writes.
@@ -154,93 +162,97 @@ fn run_over(
 }
 
 /// Runs a command line over a shelf, with ample room.
-fn run_line(alloc: Global, line: &str, shelf: &mut MemShelf) -> Result<Outcome, Fail> {
-    let words = words(alloc, line)?;
-    let out = MemSink::new(alloc, 100_000)?;
-    let err = MemSink::new(alloc, 1000)?;
-    Ok(run_over(alloc, &words, shelf, out, err))
+fn run_line(rt: &impl Abort, alloc: Global, line: &str, shelf: &mut MemShelf) -> Outcome {
+    let words = words(rt, alloc, line);
+    let out = MemSink::new(alloc, 100_000).expect(rt, "memory");
+    let err = MemSink::new(alloc, 1000).expect(rt, "memory");
+    run_over(alloc, &words, shelf, out, err)
 }
 
 /// What a command line does with the bytes of the design `d`.
-pub fn run_design(alloc: Global, line: &str, design: &[u8]) -> Result<Outcome, Fail> {
-    let mut shelf = MemShelf::new(alloc, &[])?;
-    shelf.put("d", design)?;
-    run_line(alloc, line, &mut shelf)
+pub fn run_design(rt: &impl Abort, alloc: Global, line: &str, design: &[u8]) -> Outcome {
+    let mut shelf = MemShelf::new(alloc, &[]).expect(rt, "memory");
+    shelf.put("d", design).expect(rt, "memory");
+    run_line(rt, alloc, line, &mut shelf)
 }
 
 /// Replays an Ada text under an arrivals file.
-pub fn replay_under(alloc: Global, ada: &[u8], arrivals: &[u8]) -> Result<Outcome, Fail> {
-    let mut shelf = MemShelf::new(alloc, &[])?;
-    shelf.put("a.ada", ada)?;
-    shelf.put("r", arrivals)?;
-    run_line(alloc, "replay a.ada r", &mut shelf)
+pub fn replay_under(rt: &impl Abort, alloc: Global, ada: &[u8], arrivals: &[u8]) -> Outcome {
+    let mut shelf = MemShelf::new(alloc, &[]).expect(rt, "memory");
+    shelf.put("a.ada", ada).expect(rt, "memory");
+    shelf.put("r", arrivals).expect(rt, "memory");
+    run_line(rt, alloc, "replay a.ada r", &mut shelf)
 }
 
 /// The Ada text that arrivals are given to: of a task with a sporadic unit.
-pub fn requested_text(alloc: Global) -> Result<Vec<u8>, Fail> {
-    ada_text(alloc, &row_text(alloc, "like: requested", "")?)
+pub fn requested_text(rt: &impl Abort, alloc: Global) -> Vec<u8> {
+    ada_text(rt, alloc, &row_text(rt, alloc, "like: requested", ""))
 }
 
 /// What is told of the bytes of a file of this kind: of `ada` and `arrivals` by a replay, and else of a design by the command line that
 /// its kind is.
-pub fn run_file(alloc: Global, kind: &str, bytes: &[u8]) -> Result<Outcome, Fail> {
+pub fn run_file(rt: &impl Abort, alloc: Global, kind: &str, bytes: &[u8]) -> Outcome {
     match kind {
-        "ada" => replay_under(alloc, bytes, b"UNTIL 20;"),
-        "arrivals" => replay_under(alloc, &requested_text(alloc)?, bytes),
-        line => run_design(alloc, line, bytes),
+        "ada" => replay_under(rt, alloc, bytes, b"UNTIL 20;"),
+        "arrivals" => replay_under(rt, alloc, &requested_text(rt, alloc), bytes),
+        line => run_design(rt, alloc, line, bytes),
     }
 }
 
 /// An empty shelf, on which the fetch that a row names fails.
-fn empty_shelf(alloc: Global, row: &str) -> Result<MemShelf, Fail> {
-    Ok(match value(row, "fails") {
-        Some(place) => MemShelf::new(alloc, &[number(place) as u64])?,
-        None => MemShelf::new(alloc, &[])?,
-    })
+fn empty_shelf(rt: &impl Abort, alloc: Global, row: &str) -> MemShelf {
+    match value(row, "fails") {
+        Some(place) => MemShelf::new(alloc, &[number(place) as u64]).expect(rt, "memory"),
+        None => MemShelf::new(alloc, &[]).expect(rt, "memory"),
+    }
 }
 
 /// The bytes of a row's file of this name.
-fn file_bytes(alloc: Global, row: &str, name: &str) -> Result<Vec<u8>, Fail> {
+fn file_bytes(rt: &impl Abort, alloc: Global, row: &str, name: &str) -> Vec<u8> {
     match name {
-        "d" => design_bytes(alloc, row),
-        "a.ada" => ada_bytes(alloc, row),
-        "t" => trace_bytes(alloc, row),
-        _ => arrivals_bytes(alloc, row),
+        "d" => design_bytes(rt, alloc, row),
+        "a.ada" => ada_bytes(rt, alloc, row),
+        "t" => trace_bytes(rt, alloc, row),
+        _ => arrivals_bytes(rt, alloc, row),
     }
 }
 
 /// The shelf with a row's files.
-fn shelf_of(alloc: Global, row: &str) -> Result<MemShelf, Fail> {
-    let mut shelf = empty_shelf(alloc, row)?;
+fn shelf_of(rt: &impl Abort, alloc: Global, row: &str) -> MemShelf {
+    let mut shelf = empty_shelf(rt, alloc, row);
     for name in ["d", "a.ada", "r", "t"] {
-        shelf.put(name, &file_bytes(alloc, row, name)?)?;
+        shelf
+            .put(name, &file_bytes(rt, alloc, row, name))
+            .expect(rt, "memory");
     }
-    Ok(shelf)
+    shelf
 }
 
 /// A stream of a row, with the room of this key.
-fn sink_of(alloc: Global, row: &str, room: &str) -> Result<MemSink, Fail> {
+fn sink_of(rt: &impl Abort, alloc: Global, row: &str, room: &str) -> MemSink {
     let most = number(text(row, "most")).max(1);
-    Ok(MemSink::piecewise(alloc, number(text(row, room)), most)?)
+    MemSink::piecewise(alloc, number(text(row, room)), most).expect(rt, "memory")
 }
 
 /// Runs a row.
-pub fn run_row(alloc: Global, row: &str) -> Result<Outcome, Fail> {
-    let words = words(alloc, text(row, "words"))?;
-    let mut shelf = shelf_of(alloc, row)?;
-    let out = sink_of(alloc, row, "room")?;
-    let err = sink_of(alloc, row, "err_room")?;
-    Ok(run_over(alloc, &words, &mut shelf, out, err))
+pub fn run_row(rt: &impl Abort, alloc: Global, row: &str) -> Outcome {
+    let words = words(rt, alloc, text(row, "words"));
+    let mut shelf = shelf_of(rt, alloc, row);
+    let out = sink_of(rt, alloc, row, "room");
+    let err = sink_of(rt, alloc, row, "err_room");
+    run_over(alloc, &words, &mut shelf, out, err)
 }
 
 /// What is told of a trace by the design and the arrivals of a row.
-pub fn judge(alloc: Global, row: &str, trace: &[u8]) -> Result<Outcome, Fail> {
-    let mut shelf = empty_shelf(alloc, row)?;
+pub fn judge(rt: &impl Abort, alloc: Global, row: &str, trace: &[u8]) -> Outcome {
+    let mut shelf = empty_shelf(rt, alloc, row);
     for name in ["d", "r"] {
-        shelf.put(name, &file_bytes(alloc, row, name)?)?;
+        shelf
+            .put(name, &file_bytes(rt, alloc, row, name))
+            .expect(rt, "memory");
     }
-    shelf.put("t", trace)?;
-    run_line(alloc, "accepts d r t", &mut shelf)
+    shelf.put("t", trace).expect(rt, "memory");
+    run_line(rt, alloc, "accepts d r t", &mut shelf)
 }
 
 /// The word for a status in a row.
@@ -256,20 +268,20 @@ pub fn word_of(status: Status) -> &'static str {
 }
 
 /// What a row wants in standard output.
-fn wanted_out(alloc: Global, row: &str) -> Result<Vec<u8>, Fail> {
+fn wanted_out(rt: &impl Abort, alloc: Global, row: &str) -> Vec<u8> {
     let mut out = match value(row, "told") {
-        None => lines(alloc, row, "out")?,
-        Some(name) => text_named(alloc, row, name)?,
+        None => lines(rt, alloc, row, "out"),
+        Some(name) => text_named(rt, alloc, row, name),
     };
     out.truncate(number(text(row, "room")));
-    Ok(out)
+    out
 }
 
 /// What a row wants in standard error.
-fn wanted_err(alloc: Global, row: &str) -> Result<Vec<u8>, Fail> {
-    let mut err = lines(alloc, row, "err")?;
+fn wanted_err(rt: &impl Abort, alloc: Global, row: &str) -> Vec<u8> {
+    let mut err = lines(rt, alloc, row, "err");
     err.truncate(number(text(row, "err_room")));
-    Ok(err)
+    err
 }
 
 /// Looks whether something is so in a row. An assertion in a function beside values that are dropped is dear to prove, so this and the next
@@ -310,36 +322,32 @@ pub fn check_replay(
     arrivals: &[u8],
     trace: &[u8],
     row: &str,
-) -> Result<(), Fail> {
-    let told = replay_under(alloc, ada, arrivals)?;
+) {
+    let told = replay_under(rt, alloc, ada, arrivals);
     check_told(rt, &told, "done", trace, b"", row);
-    Ok(())
 }
 
 /// Runs a row, and looks at all that is told of it.
-pub fn check_row(rt: &impl Abort, alloc: Global, row: &str) -> Result<(), Fail> {
-    let out = wanted_out(alloc, row)?;
-    let err = wanted_err(alloc, row)?;
-    let told = run_row(alloc, row)?;
+pub fn check_row(rt: &impl Abort, alloc: Global, row: &str) {
+    let out = wanted_out(rt, alloc, row);
+    let err = wanted_err(rt, alloc, row);
+    let told = run_row(rt, alloc, row);
     check_told(rt, &told, text(row, "status"), &out, &err, row);
-    Ok(())
 }
 
 /// Runs a row that has these keys too, and looks at all that is told of it, with room in standard error and without.
-fn check_given(rt: &impl Abort, alloc: Global, usual: &str, given: &str) -> Result<(), Fail> {
-    let row = row_text(alloc, given, usual)?;
-    check_row(rt, alloc, &row)?;
+fn check_given(rt: &impl Abort, alloc: Global, usual: &str, given: &str) {
+    let row = row_text(rt, alloc, given, usual);
+    check_row(rt, alloc, &row);
     if value(given, "err_room").is_none() && text(&row, "status") != "done" {
-        let row = format!(in alloc; "err_room: 0\n{row}")?;
+        let row = format!(in alloc; "err_room: 0\n{row}").expect(rt, "memory");
         return check_row(rt, alloc, &row);
     }
-    Ok(())
 }
 
 /// Runs each row of a table, whose rows have these keys too, and looks at all that is told of it.
-pub fn run_table(rt: &impl Abort, alloc: Global, usual: &str, table: &[&str]) -> Result<(), Fail> {
+pub fn run_table(rt: &impl Abort, alloc: Global, usual: &str, table: &[&str]) {
     for given in table {
-        check_given(rt, alloc, usual, given)?;
+        check_given(rt, alloc, usual, given);
     }
-    Ok(())
 }

@@ -7,7 +7,6 @@ use super::rows::{check_end, check_that, number, row_text, run_row, run_table, t
 use super::units::cut;
 use std::alloc::Global;
 use std::process::Abort;
-use std::test::Fail;
 
 /// What rows of samples have.
 const SUMMED: &str = "status: done";
@@ -134,14 +133,8 @@ fn behind(line: &str, word: &str) -> usize {
 }
 
 /// Looks at the line of a thread in the summary of a sample of so many: it is within its bound.
-fn check_line(
-    rt: &impl Abort,
-    alloc: Global,
-    line: &str,
-    thread: usize,
-    threads: usize,
-) -> Result<(), Fail> {
-    let start = format!(in alloc; "thread t{thread} releases ")?;
+fn check_line(rt: &impl Abort, alloc: Global, line: &str, thread: usize, threads: usize) {
+    let start = format!(in alloc; "thread t{thread} releases ").expect(rt, "memory");
     check_that(rt, line.starts_with(start.as_str()), line);
     let last = usize::from(thread == threads);
     let bound = thread
@@ -151,52 +144,44 @@ fn check_line(
     check_that(rt, behind(line, " bound ") == bound, line);
     let greatest = behind(line, " greatest ");
     check_that(rt, 0 < greatest && greatest <= bound, line);
-    Ok(())
 }
 
 /// Looks at the summary of a sample: there is a line for each of so many threads, in order, and one with the number of lines.
-fn check_summary(
-    rt: &impl Abort,
-    alloc: Global,
-    summary: &str,
-    threads: usize,
-) -> Result<(), Fail> {
+fn check_summary(rt: &impl Abort, alloc: Global, summary: &str, threads: usize) {
     let mut lines = summary.lines();
     for thread in 1..threads.saturating_add(1) {
-        check_line(rt, alloc, lines.next().unwrap_or(""), thread, threads)?;
+        check_line(rt, alloc, lines.next().unwrap_or(""), thread, threads);
     }
     let last = lines.next().unwrap_or("");
     check_that(rt, last.starts_with("lines "), summary);
     check_that(rt, lines.next().is_none(), summary);
-    Ok(())
 }
 
 /// Looks at the summary of the sample of so many threads: there is a line for each of them, in order, with its bound, and no time is
 /// over it.
-fn check_sample(rt: &impl Abort, alloc: Global, threads: usize) -> Result<(), Fail> {
-    let row = format!(in alloc; "words: sample {threads}\n")?;
-    let row = row_text(alloc, &row, "")?;
-    let told = run_row(alloc, &row)?;
+fn check_sample(rt: &impl Abort, alloc: Global, threads: usize) {
+    let row = format!(in alloc; "words: sample {threads}\n").expect(rt, "memory");
+    let row = row_text(rt, alloc, &row, "");
+    let told = run_row(rt, alloc, &row);
     check_end(rt, &told, "done", b"", &row);
     check_summary(rt, alloc, text_of(&told), threads)
 }
 
 #[test]
-fn each_sample_keeps_its_bounds(rt: HostRuntime) -> Result<(), Fail> {
+fn each_sample_keeps_its_bounds(rt: HostRuntime) {
     for threads in 1..31_usize {
-        check_sample(&rt, rt.alloc(), threads)?;
+        check_sample(&rt, rt.alloc(), threads);
     }
-    Ok(())
 }
 
 #[test]
-fn samples_are_summed_up(rt: HostRuntime) -> Result<(), Fail> {
+fn samples_are_summed_up(rt: HostRuntime) {
     let alloc = rt.alloc();
-    run_table(&rt, alloc, SUMMED, SUMMARIES)?;
+    run_table(&rt, alloc, SUMMED, SUMMARIES);
     run_table(&rt, alloc, SUMMED, FULL)
 }
 
 #[test]
-fn other_words_are_no_samples(rt: HostRuntime) -> Result<(), Fail> {
+fn other_words_are_no_samples(rt: HostRuntime) {
     run_table(&rt, rt.alloc(), "", NO_SAMPLES)
 }

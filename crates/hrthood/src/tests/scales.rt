@@ -2,7 +2,6 @@
 
 use super::analyses::untaken;
 use super::rows::run_table;
-use std::test::Fail;
 
 /// What rows of designs with a margin have.
 const SCALED: &str = "words: scale d
@@ -66,10 +65,10 @@ const NOT_SCALED: &[&str] = &[
 ];
 
 #[test]
-fn designs_are_scaled(rt: HostRuntime) -> Result<(), Fail> {
+fn designs_are_scaled(rt: HostRuntime) {
     let alloc = rt.alloc();
-    run_table(&rt, alloc, SCALED, MISSED)?;
-    run_table(&rt, alloc, SCALED, OTHERS)?;
-    run_table(&rt, alloc, REFUSED, NOT_SCALED)?;
+    run_table(&rt, alloc, SCALED, MISSED);
+    run_table(&rt, alloc, SCALED, OTHERS);
+    run_table(&rt, alloc, REFUSED, NOT_SCALED);
     run_table(&rt, alloc, REFUSED, untaken())
 }

@@ -7,7 +7,6 @@ use super::shapes::design_bytes;
 use super::texts::ada_bytes;
 use std::alloc::Global;
 use std::process::Abort;
-use std::test::Fail;
 
 /// Two threads and an object, of which each activation of the first meets a section of the second.
 pub const SECTION_AT_THE_END: &str =
@@ -464,18 +463,18 @@ const UNTAKEN: &[&str] = &[
 ];
 
 #[test]
-fn sections_are_run(rt: HostRuntime) -> Result<(), Fail> {
+fn sections_are_run(rt: HostRuntime) {
     let alloc = rt.alloc();
-    run_table(&rt, alloc, REPLAYED, worked())?;
-    run_table(&rt, alloc, REPLAYED, SECTIONS)?;
-    run_table(&rt, alloc, REPLAYED, VALUES)?;
-    run_table(&rt, alloc, REPLAYED, NESTED)?;
-    run_table(&rt, alloc, REPLAYED, ENDS)?;
+    run_table(&rt, alloc, REPLAYED, worked());
+    run_table(&rt, alloc, REPLAYED, SECTIONS);
+    run_table(&rt, alloc, REPLAYED, VALUES);
+    run_table(&rt, alloc, REPLAYED, NESTED);
+    run_table(&rt, alloc, REPLAYED, ENDS);
     run_table(&rt, alloc, REFUSED, UNTAKEN)
 }
 
 /// What a text says, without white space and the comments before it.
-fn said(alloc: Global, text: &[u8]) -> Result<Vec<u8>, Fail> {
+fn said(rt: &impl Abort, alloc: Global, text: &[u8]) -> Vec<u8> {
     let mut all = Vec::new(alloc);
     let mut in_comment = false;
     for byte in text {
@@ -484,28 +483,26 @@ fn said(alloc: Global, text: &[u8]) -> Result<Vec<u8>, Fail> {
             b'\n' => in_comment = false,
             b' ' => {}
             _ if in_comment => {}
-            other => all.push(other)?,
+            other => all.push(other).expect(rt, "memory"),
         }
     }
-    Ok(all)
+    all
 }
 
 /// Looks whether the text of a row's design says what the text of its units does.
-fn check_text(rt: &impl Abort, alloc: Global, given: &str) -> Result<(), Fail> {
-    let row = row_text(alloc, given, REPLAYED)?;
-    let units = said(alloc, &ada_bytes(alloc, &row)?)?;
-    let told = run_design(alloc, "generate d", &design_bytes(alloc, &row)?)?;
+fn check_text(rt: &impl Abort, alloc: Global, given: &str) {
+    let row = row_text(rt, alloc, given, REPLAYED);
+    let units = said(rt, alloc, &ada_bytes(rt, alloc, &row));
+    let told = run_design(rt, alloc, "generate d", &design_bytes(rt, alloc, &row));
     let text = told.out.bytes();
     check_end(rt, &told, "done", b"", given);
-    check_bytes(rt, &said(alloc, text)?, &units, given);
-    Ok(())
+    check_bytes(rt, &said(rt, alloc, text), &units, given);
 }
 
 /// The designs of the worked schedules have the Ada texts of their units.
 #[test]
-fn designs_have_the_texts_of_their_units(rt: HostRuntime) -> Result<(), Fail> {
+fn designs_have_the_texts_of_their_units(rt: HostRuntime) {
     for given in worked() {
-        check_text(&rt, rt.alloc(), given)?;
+        check_text(&rt, rt.alloc(), given);
     }
-    Ok(())
 }

@@ -16,9 +16,9 @@
 //! | `design_len` | beside any: with spaces behind it, up to so many bytes |
 
 use super::rows::{lengthened, number, value};
-use super::texts::filled;
+use super::texts::{counted, filled};
 use std::alloc::Global;
-use std::test::Fail;
+use std::process::Abort;
 
 /// The designs of the keys, the first that a row has; each row has an object.
 const SHAPES: &[(&str, &str)] = &[
@@ -71,72 +71,43 @@ fn shape(row: &str) -> &'static str {
     ""
 }
 
-/// Objects, each in the one before it.
-fn nested(alloc: Global, count: usize) -> Result<String, Fail> {
-    let mut root = String::new(alloc);
-    for k in 0..count {
-        root.push_str(&format!(in alloc; "OBJECT o{k} IS ACTIVE OBJECTS\n")?)?;
-    }
-    Ok(root)
-}
-
-/// Passive objects, each of which calls the next one twice, but for the last.
-fn doubling(alloc: Global, count: usize) -> Result<String, Fail> {
-    let mut root = String::from_str(alloc, "OBJECT r IS ACTIVE OBJECTS ")?;
-    for k in 1..count {
-        let next = k.saturating_add(1);
-        let object = format!(in alloc;
-            "OBJECT p{k} IS PASSIVE PROVIDES f; REQUIRES p{next}.f; OPERATION f IS BEGIN p{next}.f; p{next}.f; END f; END p{k}; "
-        )?;
-        root.push_str(&object)?;
-    }
-    let last = format!(in alloc;
-        "OBJECT p{count} IS PASSIVE PROVIDES f; OPERATION f IS BEGIN null; END f; END p{count}; END r;"
-    )?;
-    root.push_str(&last)?;
-    Ok(root)
-}
-
-/// Passive objects in an active one.
-fn many(alloc: Global, count: usize) -> Result<String, Fail> {
-    let mut root = String::from_str(alloc, "OBJECT r IS ACTIVE OBJECTS ")?;
-    for k in 0..count {
-        let object = format!(in alloc;
-            "OBJECT p{k} IS PASSIVE PROVIDES f; OPERATION f IS BEGIN null; END f; END p{k}; "
-        )?;
-        root.push_str(&object)?;
-    }
-    root.push_str("END r;")?;
-    Ok(root)
-}
-
-/// The root of a row's design that is made by counting; empty where none is.
-fn counted(alloc: Global, row: &str) -> Result<String, Fail> {
-    if let Some(count) = value(row, "nested") {
-        return nested(alloc, number(count));
-    }
-    if let Some(count) = value(row, "many") {
-        return many(alloc, number(count));
-    }
-    match value(row, "doubling") {
-        Some(count) => doubling(alloc, number(count)),
-        None => Ok(String::new(alloc)),
-    }
-}
+/// The designs of the keys whose value is a count: the first number, what stands before the objects, the object of each number up to the
+/// count, and what stands behind them.
+const COUNTED: &[(&str, usize, &str, &str, &str)] = &[
+    ("nested", 0, "", "OBJECT o{k} IS ACTIVE OBJECTS\n", ""),
+    (
+        "many",
+        0,
+        "OBJECT r IS ACTIVE OBJECTS ",
+        "OBJECT p{k} IS PASSIVE PROVIDES f; OPERATION f IS BEGIN null; END f; END p{k}; ",
+        "END r;",
+    ),
+    (
+        "doubling",
+        1,
+        "OBJECT r IS ACTIVE OBJECTS ",
+        "OBJECT p{k} IS PASSIVE PROVIDES f; REQUIRES p{next}.f; OPERATION f IS BEGIN p{next}.f; p{next}.f; END f; END p{k}; ",
+        "OBJECT p{doubling} IS PASSIVE PROVIDES f; OPERATION f IS BEGIN null; END f; END p{doubling}; END r;",
+    ),
+];
 
 /// The text of a row's design, without spaces behind it.
-fn shape_text(alloc: Global, row: &str) -> Result<Vec<u8>, Fail> {
-    let root = counted(alloc, row)?;
-    if root.is_empty() {
-        return filled(alloc, &[shape(row)], row);
+fn shape_text(rt: &impl Abort, alloc: Global, row: &str) -> Vec<u8> {
+    for (key, from, before, object, behind) in COUNTED {
+        if let Some(count) = value(row, key) {
+            let objects = counted(rt, alloc, *from, number(count), object);
+            let mut all = filled(rt, alloc, &["DESIGN d IS {costs}\n", before], row);
+            all.extend_from_slice(objects.as_bytes())
+                .expect(rt, "memory");
+            all.extend_from_slice(&filled(rt, alloc, &[behind, "\nEND d;\n"], row))
+                .expect(rt, "memory");
+            return all;
+        }
     }
-    let mut all = filled(alloc, &["DESIGN d IS {costs}\n"], row)?;
-    all.extend_from_slice(root.as_bytes())?;
-    all.extend_from_slice(b"\nEND d;\n")?;
-    Ok(all)
+    filled(rt, alloc, &[shape(row)], row)
 }
 
 /// The bytes of a row's design.
-pub fn design_bytes(alloc: Global, row: &str) -> Result<Vec<u8>, Fail> {
-    lengthened(alloc, &shape_text(alloc, row)?, row, "design_len")
+pub fn design_bytes(rt: &impl Abort, alloc: Global, row: &str) -> Vec<u8> {
+    lengthened(rt, alloc, &shape_text(rt, alloc, row), row, "design_len")
 }

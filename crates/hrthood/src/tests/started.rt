@@ -2,7 +2,6 @@
 
 use super::replays::REPLAYED;
 use super::rows::run_table;
-use std::test::Fail;
 
 /// Requests of tasks, and what they release.
 const STARTS: &[&str] = &[
@@ -270,9 +269,9 @@ const OUTSIDE: &[&str] = &[
 ];
 
 #[test]
-fn tasks_are_started(rt: HostRuntime) -> Result<(), Fail> {
+fn tasks_are_started(rt: HostRuntime) {
     let alloc = rt.alloc();
-    run_table(&rt, alloc, REPLAYED, STARTS)?;
-    run_table(&rt, alloc, REPLAYED, CEILINGS)?;
+    run_table(&rt, alloc, REPLAYED, STARTS);
+    run_table(&rt, alloc, REPLAYED, CEILINGS);
     run_table(&rt, alloc, REPLAYED, OUTSIDE)
 }

@@ -23,7 +23,7 @@ use super::sections::{SECTION_AT_THE_END, TWO_OBJECTS};
 use super::units::{BODIES, SPECS, push_units};
 use super::verifies::{LATE_REQUEST, STARTED_TRACE};
 use std::alloc::Global;
-use std::test::Fail;
+use std::process::Abort;
 
 /// What rows of every table have: a cyclic task of period 10 whose activations take 4 ticks.
 pub const USUAL: &str = "unit: a
@@ -42,50 +42,69 @@ pub const USUAL: &str = "unit: a
     most: 100000";
 
 /// The text of these pieces.
-pub fn joined(alloc: Global, pieces: &[&str]) -> Result<String, Fail> {
+pub fn joined(rt: &impl Abort, alloc: Global, pieces: &[&str]) -> String {
     let mut all = String::new(alloc);
     for piece in pieces {
-        all.push_str(piece)?;
+        all.push_str(piece).expect(rt, "memory");
     }
-    Ok(all)
+    all
 }
 
 /// The text with spaces behind it, up to this length.
-pub fn padded(alloc: Global, text: &[u8], len: usize) -> Result<Vec<u8>, Fail> {
-    let mut bytes = text.to_vec(alloc)?;
-    bytes.resize(len, b' ')?;
-    Ok(bytes)
+pub fn padded(rt: &impl Abort, alloc: Global, text: &[u8], len: usize) -> Vec<u8> {
+    let mut bytes = text.to_vec(alloc).expect(rt, "memory");
+    bytes.resize(len, b' ').expect(rt, "memory");
+    bytes
 }
 
 /// Adds what a key in a template stands for, by a row.
-fn push_value(all: &mut Vec<u8>, row: &str, key: &str) -> Result<(), Fail> {
+fn push_value(rt: &impl Abort, all: &mut Vec<u8>, row: &str, key: &str) {
     if let Some((piece, count)) = key.split_once('*') {
         for _ in 0..number(text(row, count)) {
-            all.extend_from_slice(piece.as_bytes())?;
+            all.extend_from_slice(piece.as_bytes()).expect(rt, "memory");
         }
-        return Ok(());
+        return;
     }
     let found = text(row, key.trim_start());
     if key.starts_with(' ') && !found.is_empty() {
-        all.push(b' ')?;
+        all.push(b' ').expect(rt, "memory");
     }
-    all.extend_from_slice(found.as_bytes())?;
-    Ok(())
+    all.extend_from_slice(found.as_bytes()).expect(rt, "memory");
 }
 
 /// The text of these templates, in which `{key}` stands for the value of that key in the row, `{ key}` for a space and the value where
 /// it isn't empty, and `{PIECE*key}` for the piece so many times. One function fills all templates, since many pieces in a function
 /// are dear to prove.
-pub fn filled(alloc: Global, templates: &[&str], row: &str) -> Result<Vec<u8>, Fail> {
+pub fn filled(rt: &impl Abort, alloc: Global, templates: &[&str], row: &str) -> Vec<u8> {
     let mut all = Vec::new(alloc);
     for template in templates {
         for piece in template.split('{') {
             let (key, behind) = piece.split_once('}').unwrap_or(("", piece));
-            push_value(&mut all, row, key)?;
-            all.extend_from_slice(behind.as_bytes())?;
+            push_value(rt, &mut all, row, key);
+            all.extend_from_slice(behind.as_bytes())
+                .expect(rt, "memory");
         }
     }
-    Ok(all)
+    all
+}
+
+/// The text of a template for each number of a range, one behind the other: `{k}` is the number, `{next}` the one behind it, `{twice}` two
+/// times the number, and `{left}` what is left up to the end of the range. All texts that are made by counting come from here, since each loop
+/// that makes one is dear to prove.
+pub fn counted(rt: &impl Abort, alloc: Global, from: usize, end: usize, template: &str) -> String {
+    let mut all = String::new(alloc);
+    for k in from..end {
+        let next = k.saturating_add(1);
+        let twice = k.saturating_mul(2);
+        let left = end.saturating_sub(k);
+        let row = format!(in alloc; "k: {k}\nnext: {next}\ntwice: {twice}\nleft: {left}").expect(
+            rt, "memory",
+        );
+        let piece = filled(rt, alloc, &[template], &row);
+        all.push_str(str::from_utf8(&piece).unwrap_or(""))
+            .expect(rt, "memory");
+    }
+    all
 }
 
 /// The comments before the text of the cyclic task.
@@ -215,51 +234,55 @@ package body d is
 ];
 
 /// The Ada text of the program `d` with a row's task: of the sporadic one where the row has a separation, and else of the cyclic one.
-pub fn ada_text(alloc: Global, row: &str) -> Result<Vec<u8>, Fail> {
+pub fn ada_text(rt: &impl Abort, alloc: Global, row: &str) -> Vec<u8> {
     match value(row, "separation") {
-        Some(_) => filled(alloc, ASKED_TASK, row),
-        None => filled(alloc, TASK, row),
+        Some(_) => filled(rt, alloc, ASKED_TASK, row),
+        None => filled(rt, alloc, TASK, row),
     }
 }
 
 /// The text that a row means by a name: the Ada text of its task, that of the design of every kind of object, or one that is known by it.
-pub fn text_named(alloc: Global, row: &str, name: &str) -> Result<Vec<u8>, Fail> {
+pub fn text_named(rt: &impl Abort, alloc: Global, row: &str, name: &str) -> Vec<u8> {
     match name {
-        "ada" => ada_text(alloc, row),
-        "every kind text" => filled(alloc, EVERY_KIND_TEXT, row),
-        other => Ok(named(other).as_bytes().to_vec(alloc)?),
+        "ada" => ada_text(rt, alloc, row),
+        "every kind text" => filled(rt, alloc, EVERY_KIND_TEXT, row),
+        other => named(other).as_bytes().to_vec(alloc).expect(rt, "memory"),
     }
 }
 
 /// The Ada text of the program `d` with these specifications of units, and their bodies.
-fn units_text(alloc: Global, row: &str, specs: &[u8]) -> Result<Vec<u8>, Fail> {
-    let mut all = filled(alloc, &[HRT, "package d is\n"], row)?;
-    all.extend_from_slice(specs)?;
-    all.extend_from_slice(b"end d;\npackage body d is\n")?;
-    push_units(alloc, &mut all, row, BODIES)?;
-    all.extend_from_slice(MAIN.as_bytes())?;
-    Ok(all)
+fn units_text(rt: &impl Abort, alloc: Global, row: &str, specs: &[u8]) -> Vec<u8> {
+    let mut all = filled(rt, alloc, &[HRT, "package d is\n"], row);
+    all.extend_from_slice(specs).expect(rt, "memory");
+    all.extend_from_slice(b"end d;\npackage body d is\n")
+        .expect(rt, "memory");
+    push_units(rt, alloc, &mut all, row, BODIES);
+    all.extend_from_slice(MAIN.as_bytes()).expect(rt, "memory");
+    all
 }
 
 /// The text of a row's program.
-fn program_text(alloc: Global, row: &str) -> Result<Vec<u8>, Fail> {
+fn program_text(rt: &impl Abort, alloc: Global, row: &str) -> Vec<u8> {
     let mut specs = Vec::new(alloc);
-    push_units(alloc, &mut specs, row, SPECS)?;
+    push_units(rt, alloc, &mut specs, row, SPECS);
     if specs.is_empty() {
-        return ada_text(alloc, row);
+        return ada_text(rt, alloc, row);
     }
-    units_text(alloc, row, &specs)
+    units_text(rt, alloc, row, &specs)
 }
 
 /// The bytes of a row's Ada text.
-pub fn ada_bytes(alloc: Global, row: &str) -> Result<Vec<u8>, Fail> {
+pub fn ada_bytes(rt: &impl Abort, alloc: Global, row: &str) -> Vec<u8> {
     let mut bytes = match value(row, "ada") {
-        Some(_) => text(row, "ada").as_bytes().to_vec(alloc)?,
-        None => program_text(alloc, row)?,
+        Some(_) => text(row, "ada")
+            .as_bytes()
+            .to_vec(alloc)
+            .expect(rt, "memory"),
+        None => program_text(rt, alloc, row),
     };
     let cut = number(value(row, "ada_cut").unwrap_or(""));
     bytes.truncate(bytes.len().saturating_sub(cut));
-    lengthened(alloc, &bytes, row, "ada_len")
+    lengthened(rt, alloc, &bytes, row, "ada_len")
 }
 
 /// The text that stands beside this in a list; the empty one where there is none.

@@ -12,7 +12,7 @@
 
 use super::texts::{beside, filled, joined};
 use std::alloc::Global;
-use std::test::Fail;
+use std::process::Abort;
 
 /// The keys of the words in the line of a unit of each kind, in order, before its profile.
 const HEADS: &[(&str, &str)] = &[
@@ -86,14 +86,15 @@ pub fn cut<'x>(text: &'x str, separator: &'x str) -> (&'x str, &'x str) {
 }
 
 /// The first words of a unit by their keys, one a line.
-fn head_row(alloc: Global, keys: &str, head: &str) -> Result<String, Fail> {
+fn head_row(rt: &impl Abort, alloc: Global, keys: &str, head: &str) -> String {
     let mut row = String::new(alloc);
     let mut words = head.split_whitespace();
     for key in keys.split_whitespace() {
         let word = words.next().unwrap_or("");
-        row.push_str(&format!(in alloc; "{key}: {word}\n")?)?;
+        row.push_str(&format!(in alloc; "{key}: {word}\n").expect(rt, "memory"))
+            .expect(rt, "memory");
     }
-    Ok(row)
+    row
 }
 
 /// What stands behind the first word.
@@ -121,13 +122,14 @@ fn request<'x>(profile: &'x str) -> &'x str {
 }
 
 /// The values of the unit of a line by their keys, one a line.
-fn unit_row<'x>(alloc: Global, kind: &'x str, unit: &'x str) -> Result<String, Fail> {
+fn unit_row<'x>(rt: &impl Abort, alloc: Global, kind: &'x str, unit: &'x str) -> String {
     let (head, behind) = cut(unit, " is ");
     let (data, statements) = cut(behind, "begin ");
-    let words = head_row(alloc, beside(HEADS, kind), head)?;
+    let words = head_row(rt, alloc, beside(HEADS, kind), head);
     let profile = profile_of(kind, head);
     let external = if kind == "external" { "true" } else { "false" };
     joined(
+        rt,
         alloc,
         &[
             &words,
@@ -148,19 +150,19 @@ fn unit_row<'x>(alloc: Global, kind: &'x str, unit: &'x str) -> Result<String, F
 
 /// Adds the units of a row in the short form, each by the template of its kind.
 pub fn push_units(
+    rt: &impl Abort,
     alloc: Global,
     all: &mut Vec<u8>,
     row: &str,
     templates: &[(&str, &'static str)],
-) -> Result<(), Fail> {
+) {
     for line in row.lines() {
         let (key, unit) = cut(line, ": ");
         let kind = key.trim_start();
         let template = beside(templates, kind);
         if !template.is_empty() {
-            let text = filled(alloc, &[template], &unit_row(alloc, kind, unit)?)?;
-            all.extend_from_slice(&text)?;
+            let text = filled(rt, alloc, &[template], &unit_row(rt, alloc, kind, unit));
+            all.extend_from_slice(&text).expect(rt, "memory");
         }
     }
-    Ok(())
 }

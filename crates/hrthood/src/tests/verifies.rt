@@ -4,7 +4,6 @@ use super::rows::{check_told, lines, row_text, run_design, run_row, run_table};
 use super::shapes::design_bytes;
 use std::alloc::Global;
 use std::process::Abort;
-use std::test::Fail;
 
 /// What rows of designs that are verified have. `out` is the trace.
 pub const VERIFIED: &str = "words: verify d r
@@ -147,32 +146,31 @@ pub fn traces() -> &'static [&'static str] {
 }
 
 /// What a row wants to be written: the text that `generate` makes of its design, the line between, and the trace.
-fn wanted(alloc: Global, row: &str) -> Result<Vec<u8>, Fail> {
-    let made = run_design(alloc, "generate d", &design_bytes(alloc, row)?)?;
-    let mut all = made.out.bytes().to_vec(alloc)?;
-    all.extend_from_slice(MARK)?;
-    all.extend_from_slice(&lines(alloc, row, "out")?)?;
-    Ok(all)
+fn wanted(rt: &impl Abort, alloc: Global, row: &str) -> Vec<u8> {
+    let made = run_design(rt, alloc, "generate d", &design_bytes(rt, alloc, row));
+    let mut all = made.out.bytes().to_vec(alloc).expect(rt, "memory");
+    all.extend_from_slice(MARK).expect(rt, "memory");
+    all.extend_from_slice(&lines(rt, alloc, row, "out"))
+        .expect(rt, "memory");
+    all
 }
 
 /// Looks at what is told of a row's design.
-fn check_verified(rt: &impl Abort, alloc: Global, given: &str) -> Result<(), Fail> {
-    let row = row_text(alloc, given, VERIFIED)?;
-    let wanted = wanted(alloc, &row)?;
-    let told = run_row(alloc, &row)?;
+fn check_verified(rt: &impl Abort, alloc: Global, given: &str) {
+    let row = row_text(rt, alloc, given, VERIFIED);
+    let wanted = wanted(rt, alloc, &row);
+    let told = run_row(rt, alloc, &row);
     check_told(rt, &told, "done", &wanted, b"", given);
-    Ok(())
 }
 
 #[test]
-fn traces_of_designs(rt: HostRuntime) -> Result<(), Fail> {
+fn traces_of_designs(rt: HostRuntime) {
     for given in traces() {
-        check_verified(&rt, rt.alloc(), given)?;
+        check_verified(&rt, rt.alloc(), given);
     }
-    Ok(())
 }
 
 #[test]
-fn designs_that_are_not_verified(rt: HostRuntime) -> Result<(), Fail> {
+fn designs_that_are_not_verified(rt: HostRuntime) {
     run_table(&rt, rt.alloc(), VERIFIED, REFUSED)
 }

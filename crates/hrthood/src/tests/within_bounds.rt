@@ -7,7 +7,6 @@ use super::shapes::design_bytes;
 use super::texts::named;
 use std::alloc::Global;
 use std::process::Abort;
-use std::test::Fail;
 
 /// The greatest time from a release of a task to its next end; 0 where it has no end.
 fn greatest(trace: &str, task: &str) -> usize {
@@ -50,30 +49,24 @@ fn check_ends(rt: &impl Abort, bounds: &str, trace: &str) {
 }
 
 /// Replays the text of a design, and looks whether each thread has ends, all of them within its bound.
-fn check_bounds(
-    rt: &impl Abort,
-    alloc: Global,
-    design: &[u8],
-    arrivals: &[u8],
-) -> Result<(), Fail> {
-    let bounds = run_design(alloc, "analyse d", design)?;
-    let text = run_design(alloc, "generate d", design)?;
-    let replay = replay_under(alloc, text.out.bytes(), arrivals)?;
+fn check_bounds(rt: &impl Abort, alloc: Global, design: &[u8], arrivals: &[u8]) {
+    let bounds = run_design(rt, alloc, "analyse d", design);
+    let text = run_design(rt, alloc, "generate d", design);
+    let replay = replay_under(rt, alloc, text.out.bytes(), arrivals);
     check_ends(rt, text_of(&bounds), text_of(&replay));
-    Ok(())
 }
 
 /// Looks at the bounds of the design of a worked schedule.
-fn check_worked(rt: &impl Abort, alloc: Global, given: &str) -> Result<(), Fail> {
-    let row = row_text(alloc, given, REPLAYED)?;
-    check_bounds(rt, alloc, &design_bytes(alloc, &row)?, b"UNTIL 40;")
+fn check_worked(rt: &impl Abort, alloc: Global, given: &str) {
+    let row = row_text(rt, alloc, given, REPLAYED);
+    check_bounds(rt, alloc, &design_bytes(rt, alloc, &row), b"UNTIL 40;")
 }
 
 #[test]
-fn activations_end_within_their_bounds(rt: HostRuntime) -> Result<(), Fail> {
+fn activations_end_within_their_bounds(rt: HostRuntime) {
     let alloc = rt.alloc();
     for given in worked() {
-        check_worked(&rt, alloc, given)?;
+        check_worked(&rt, alloc, given);
     }
     let mine = named("mine").as_bytes();
     check_bounds(&rt, alloc, mine, b"UNTIL 1000; AT 30 water_handler 1;")

@@ -3,3 +3,4 @@ mod Worked
 mod Mine
 mod RunCases
 mod StepCases
+mod SystemCases

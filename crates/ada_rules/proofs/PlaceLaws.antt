@@ -5,8 +5,7 @@ use Rattle.std.specs.List.{list_any}
 use Rattle.std.proofs.lemmas.Bool.{and_parts, and_from}
 use Rattle.std.proofs.lemmas.Option.{slice_get_within}
 use Rattle.seq_tree.specs.declared.tree.OpName.{OpName}
-use Rattle.call_graph.specs.Edges.{is_at}
-use Rattle.call_graph.proofs.Shared.EdgeLaws.{at-is, edge-between, is-at}
+use Rattle.call_graph.proofs.Shared.EdgeLaws.{at-is, edge-between, is-at, is_at}
 use Rattle.rings.specs.Graphs.{is_step}
 use Rattle.ada_rules.specs.Callers.{Caller, caller_edges}
 use Rattle.ada_rules.proofs.RingLaws.{any-mono, any-some}

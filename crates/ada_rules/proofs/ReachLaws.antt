@@ -10,8 +10,7 @@ use Rattle.seq_tree.specs.declared.tree.OpName.{OpName}
 use Rattle.seq_tree.proofs.Shared.Walks.{same_op-eq, same_op-refl}
 use Rattle.name_sets.proofs.Shared.PlaceLaws.{op-none-later, op-placed}
 use Rattle.name_sets.specs.FirstPlaces.{op_place_from}
-use Rattle.call_graph.specs.Edges.{is_at}
-use Rattle.call_graph.proofs.Shared.EdgeLaws.{at-is, is-at}
+use Rattle.call_graph.proofs.Shared.EdgeLaws.{at-is, is-at, is_at}
 use Rattle.rings.specs.Graphs.{has_number, is_step}
 use Rattle.rings.specs.Reached.{IsReachedBy}
 use Rattle.rings.proofs.Shared.NamedRings.{names_lead, one_name}

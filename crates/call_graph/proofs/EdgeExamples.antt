@@ -2,7 +2,8 @@
 use Rattle.std.proofs.Common.{◌≡◌, ℕ, true, false, [], ◌∷◌, Option, Some, None, refl}
 use Rattle.seq_tree.specs.declared.tree.OpName.{OpName}
 use Rattle.name_sets.specs.FirstPlaces.{op_place_from}
-use Rattle.call_graph.specs.Edges.{edges_from, edges_to, has_edge, is_at}
+use Rattle.call_graph.specs.Edges.{edges_from, edges_to}
+use Rattle.call_graph.proofs.Shared.EdgeLaws.{has_edge, is_at}
 
 abbrev f : OpName
 f = record { object = 112 ∷ []; op = 102 ∷ [] }

@@ -8,8 +8,7 @@ use Rattle.ods_tree.specs.Flattening.{is_protected}
 use Rattle.ods_tree.specs.Walk.{Standing, terminals}
 use Rattle.design_rules.specs.Rings.{protected_objects}
 use Rattle.ods_index.specs.Calling.{Calls, body_calls, design_calls, object_calls}
-use Rattle.call_graph.specs.Edges.{has_edge, is_at}
-use Rattle.call_graph.proofs.Shared.EdgeLaws.{at-is, edge-between, is-at}
+use Rattle.call_graph.proofs.Shared.EdgeLaws.{at-is, edge-between, has_edge, is-at, is_at}
 use Rattle.ods_calls.specs.Graphed.{body_edges}
 use Rattle.ods_calls.proofs.Items.{In, any-in, from-filter, from-flat, from-map, in-flat, in-map, some-in}
 

@@ -1,11 +1,20 @@
 -- Edges between places are calls between what stands there.
-use Rattle.std.proofs.Common.{◌≡◌, ℕ, ◌==◌, Bool, List, [], ◌∷◌, ◌&&◌, ◌||◌, map, filter_map, flat_map, Option, Some, None, refl, ap, sym, ◌∙◌, true}
+use Rattle.std.proofs.Common.{◌≡◌, ℕ, ◌==◌, Bool, false, List, [], ◌∷◌, ◌&&◌, ◌||◌, map, filter_map, flat_map, Option, Some, None, refl, ap, sym, ◌∙◌, true}
 use Rattle.std.proofs.Math.Bool.{and-false, and-or_distrib_left}
 use Rattle.std.proofs.lemmas.Bool.{eqb-true, eq-eqb}
 use Rattle.std.proofs.lemmas.List.Folds.{list_any-append}
 use Rattle.std.specs.List.{list_any, cons_option}
 use Rattle.seq_tree.specs.declared.tree.OpName.{OpName}
-use Rattle.call_graph.specs.Edges.{edges_from, edges_to, has_edge, is_at}
+use Rattle.call_graph.specs.Edges.{edges_from, edges_to}
+
+-- whether one of these edges leads from one place to another
+abbrev pub has_edge : List (ℕ × ℕ) → ℕ → ℕ → Bool
+has_edge es p q = list_any (λ e. e.0 == p && e.1 == q) es
+
+-- whether a place is this one
+abbrev pub is_at : Option ℕ → ℕ → Bool
+is_at None p = false
+is_at (Some q) p = q == p
 
 -- a place that is this one
 pub is-at : (o : Option ℕ) (p : ℕ) → is_at o p ≡ true → o ≡ Some p

@@ -1,5 +1,5 @@
 -- Which bodies are held, which of them make the calls of protected operations, and that a body lists all calls that it makes.
--- What a body calls it lists also by the name that its way and its rank have.
+-- So what it means by its calls is among what it means by those that it lists.
 use Rattle.std.proofs.Common.{◌≡◌, inl, inr, ◌⊎◌, Bool, true, false, not, ◌&&◌, ◌||◌, List, [], ◌∷◌, ◌++◌, map, filter, flat_map, refl, ap, sym}
 use Rattle.std.proofs.Common.{subst, ◌∙◌}
 use Rattle.std.specs.Prelude.{if◌then◌else◌}
@@ -13,7 +13,6 @@ use Rattle.seq_tree.specs.Statements.{Statement, Statements, Branches, Null, Ass
 use Rattle.seq_tree.specs.Statements.{When}
 use Rattle.seq_tree.specs.declared.tree.OpName.{OpName}
 use Rattle.seq_tree.proofs.Shared.Walks.{same_op-eq}
-use Rattle.name_sets.specs.declared.places.Places.{Places}
 use Rattle.call_graph.specs.Listed.{block_listed, branch_listed, call_listed, listed_all, listed_more, statement_listed}
 use Rattle.ods_tree.specs.Designs.{Body, Design, Object}
 use Rattle.ods_tree.specs.Flattening.{is_protected}
@@ -22,7 +21,6 @@ use Rattle.ods_tree.specs.Walk.{Standing, terminals}
 use Rattle.design_rules.specs.Rings.{inner_calls, meant_calls, operation_calls, protected_objects}
 use Rattle.ods_calls.specs.Held.{held_bodies, is_held}
 use Rattle.ods_index.specs.Calling.{Calls, body_calls, object_calls, meant_by}
-use Rattle.ods_calls.specs.Keys.{key, keys_in}
 use Rattle.ods_calls.proofs.Items.{In, any-in, from-filter, from-flat, from-map, in-filter, in-flat, in-left, in-map, in-parts, in-right}
 use Rattle.ods_calls.proofs.Items.{some-in}
 
@@ -215,14 +213,3 @@ meant-listed x needs b k h =
     let g = from-filter p r.0 (block_calls b) r.1 in
     let P : OpName → Type 0 = λ m. In m (meant_of x needs (block_listed false b)) in
     subst P r.2 (in-map (resolve x) r.0 (filter p (block_listed false b)) (in-filter p r.0 (block_listed false b) (block-listed false r.0 b g.0) g.1))
-
-pub key-listed : (t : Places) (x : Design) (needs : List OpName) (b : Statements) (k : OpName) → In k (meant_of x needs (block_calls b))
-    → In (key t k) (keys_in t x needs b)
-key-listed t x needs b k h =
-    let p : OpName → Bool = λ c. list_any (same_op c) needs in
-    let r = from-map (resolve x) k (filter p (block_calls b)) h in
-    let g = from-filter p r.0 (block_calls b) r.1 in
-    let P : OpName → Type 0 = λ m. In (key t m) (keys_in t x needs b) in
-    subst P r.2
-    (in-map (λ (c : OpName). key t (resolve x c)) r.0 (filter p (block_listed false b))
-    (in-filter p r.0 (block_listed false b) (block-listed false r.0 b g.0) g.1))

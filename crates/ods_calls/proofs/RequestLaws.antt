@@ -1,6 +1,6 @@
 -- Requests that are cut at 2, counted level by level: cutting what is known of protected operations changes no cut number, and
 -- a number changes one level deeper only where that of an operation that is called has changed.
-use Rattle.std.proofs.Common.{◌≡◌, ◌⊎◌, inl, inr, ◌≤◌, ◌+◌, ◌-◌, ◌*◌, ℕ, zero, suc, Bool, true, false, cond, not, nat_eq, ◌&&◌, ◌||◌, List, [], ◌∷◌}
+use Rattle.std.proofs.Common.{◌≡◌, ◌⊎◌, inl, inr, ◌≤◌, ◌+◌, ◌-◌, ℕ, zero, suc, Bool, true, false, cond, not, nat_eq, ◌&&◌, ◌||◌, List, [], ◌∷◌}
 use Rattle.std.proofs.Common.{◌++◌, Option, Some, None, map, filter, flat_map, fold, arith, refl, ap, sym, subst, ◌∙◌}
 use Rattle.std.specs.Prelude.{min, max, unwrap_or, ◌==◌, if◌then◌else◌}
 use Rattle.std.specs.List.{list_any}
@@ -8,15 +8,17 @@ use Rattle.std.proofs.lemmas.List.{map-append}
 use Rattle.std.proofs.lemmas.List.Concat.{flat_map-append}
 use Rattle.std.proofs.lemmas.List.Sums.{fold-append}
 use Rattle.seq_tree.specs.Calls.{block_calls, same_op}
-use Rattle.seq_tree.specs.Dearest.{Weights, counted, dearest, dearest_branch, dearest_statement, free, turn_count}
+use Rattle.seq_tree.specs.Dearest.{counted, free}
 use Rattle.seq_tree.specs.Lists.{Each}
 use Rattle.seq_tree.specs.Names.{Name, same_name}
-use Rattle.seq_tree.specs.Statements.{Statement, Statements, Branches, Null, Assign, If, For, ExitWhen, Call, Work, Put, End, Then, Nothing, Else}
-use Rattle.seq_tree.specs.Statements.{When}
+use Rattle.seq_tree.specs.Statements.{Statements}
 use Rattle.seq_tree.specs.declared.tree.OpName.{OpName}
 use Rattle.seq_tree.proofs.Shared.Walks.{same_op-eq, same_op-refl}
 use Rattle.name_sets.specs.Tables.{or_0}
 use Rattle.seq_cost.proofs.Shared.Listed.{block-same}
+use Rattle.call_graph.specs.Listed.{block_listed}
+use Rattle.call_graph.specs.Once.{sum_of}
+use Rattle.call_graph.proofs.Shared.ListedLaws.{counted-listed}
 use Rattle.ods_tree.specs.Designs.{Body, Design, Object}
 use Rattle.ods_tree.specs.Flattening.{is_protected}
 use Rattle.ods_tree.specs.Links.{resolve}
@@ -63,39 +65,16 @@ counted-cut f g b same =
     counted-each f g b (each-among (λ c. min 2 (f c.object c.op) ≡ min 2 (g c.object c.op)) (block_calls b) (λ c h. same c.object c.op))
 
 -- calls that count nothing
-abbrev none : Weights
-none = record { costs = free; work = λ ticks. 0; called = λ object op. 0 }
+sum-none : (cs : List OpName) → sum_of (λ n. 0) cs ≡ 0
+sum-none [] = refl
+sum-none (c ∷ cs) = (let rest = sum-none cs in omega (arith, rest))
 
-no-turns : (n k : ℕ) → k ≡ 0 → n * (0 + k) ≡ 0
-no-turns zero k e = grind arith
-no-turns (suc n) k e = let h = no-turns n k e in grind (arith, h, e)
-
-both-none : (a b : ℕ) → a ≡ 0 → b ≡ 0 → a + b ≡ 0
-both-none a b e h = grind (arith, e, h)
-
-most-none : (a b : ℕ) → a ≡ 0 → b ≡ 0 → 0 + max a b ≡ 0
-most-none a b e h = grind (arith, e, h)
-
-mutual
-  statement-none : (s : Statement) → dearest_statement none s ≡ 0
-  statement-none Null = refl
-  statement-none (Assign target e) = refl
-  statement-none (If branches) = branches-none branches
-  statement-none (For name low high body) = no-turns (turn_count low high) (dearest none body) (counted-none body)
-  statement-none (ExitWhen condition) = refl
-  statement-none (Call object op actuals) = refl
-  statement-none (Work ticks) = refl
-  statement-none (Put e) = refl
-
-  pub counted-none : (b : Statements) → dearest none b ≡ 0
-  counted-none End = refl
-  counted-none (Then first rest) = both-none (dearest_statement none first) (dearest none rest) (statement-none first) (counted-none rest)
-
-  branches-none : (b : Branches) → dearest_branch none b ≡ 0
-  branches-none Nothing = refl
-  branches-none (Else block) = counted-none block
-  branches-none (When condition block others) =
-      most-none (dearest none block) (dearest_branch none others) (counted-none block) (branches-none others)
+counted-none : (b : Statements) → counted (λ object op. 0) b ≡ 0
+counted-none b =
+    let none = sum-none (block_listed false b) in
+    let few : sum_of (λ n. 0) (block_listed false b) ≤ 1 = omega (arith, none) in
+    let counts : counted (λ object op. 0) b ≤ sum_of (λ n. 0) (block_listed false b) = counted-listed (λ n. 0) b few in
+    omega (arith, none, counts)
 
 -- a block whose calls count nothing
 pub counted-quiet : (f : Name → Name → ℕ) (b : Statements) → Each (λ c. f c.object c.op ≡ 0) (block_calls b) → counted f b ≡ 0

@@ -1,6 +1,6 @@
 -- How often calls request an object, by what is known of protected operations, and which operations call which.
 -- It is the rule on sources, body by body.
-use Rattle.std.specs.Prelude.{◌≡◌, ◌⊎◌, ◌&&◌, ℕ, suc, Bool, true, List, [], ◌∷◌, Option, map, flat_map, fold, max, min, nat_eq, not, if◌then◌else◌}
+use Rattle.std.specs.Prelude.{◌≡◌, ◌⊎◌, ◌&&◌, ℕ, suc, Bool, true, List, [], ◌∷◌, Option, Vec, map, flat_map, fold, max, min, nat_eq, not, if◌then◌else◌}
 use Rattle.std.specs.List.{list_any}
 use Rattle.seq_tree.specs.Calls.{same_op}
 use Rattle.seq_tree.specs.Dearest.{counted}
@@ -16,7 +16,6 @@ use Rattle.design_rules.specs.Broken.{Broken, V10}
 use Rattle.design_rules.specs.Lookups.{is_sporadic}
 use Rattle.design_rules.specs.Sources.{breaks_sources, source_count, start_count, starts_within}
 use Rattle.ods_index.specs.Calling.{Calls, calls_of}
-use Rattle.ods_calls.specs.declared.bodies.Bodies.{Bodies}
 use Rattle.ods_calls.specs.declared.bodies.Body.{Body}
 
 -- how often a call requests a target, where these operations are required
@@ -71,8 +70,8 @@ abbrev pub held_of : Body → Calls
 held_of b = calls_of b.calls.now
 
 -- the bodies that are kept for an operation
-unfoldable pub bodies_at : Bodies → OpName → List Calls
-bodies_at t name = map held_of (listed (at t.bodies name))
+unfoldable pub bodies_at : {Z : Type 0} → OpTable (Vec Body Z) → OpName → List Calls
+bodies_at t name = map held_of (listed (at t name))
 
 -- the operations whose counts change one level deeper are among these
 abbrev pub AreDue : Design → Name → ℕ → List OpName → Type 0

@@ -1,26 +1,14 @@
 -- What threads can start: the operations that a thread calls, itself or through protected operations.
 -- Of what calls these each operation is found once, in the order in which it was looked for.
-use Rattle.std.specs.Prelude.{◌≡◌, Bool, List, [], ◌∷◌, ◌++◌, map, flat_map, length, if◌then◌else◌, option_to_list}
+use Rattle.std.specs.Prelude.{◌≡◌, Bool, List, [], ◌∷◌, ◌++◌, flat_map, length, if◌then◌else◌, option_to_list}
 use Rattle.std.specs.List.{list_any}
 use Rattle.seq_tree.specs.Calls.{same_op}
 use Rattle.seq_tree.specs.Names.{Name, same_name}
 use Rattle.seq_tree.specs.declared.tree.OpName.{OpName}
 use Rattle.name_sets.specs.Sets.{has_op}
-use Rattle.name_sets.specs.Tables.{at, listed, named}
 use Rattle.name_sets.specs.declared.sets.Ops.{Ops}
 use Rattle.ods_tree.specs.Designs.{Object, Design}
 use Rattle.design_rules.specs.Rings.{calls_within, meant_calls, terminal_ops, thread_calls}
-use Rattle.ods_calls.specs.declared.callers.BodyCalls.{BodyCalls}
-use Rattle.ods_calls.specs.declared.callers.Inner.{Inner}
-use Rattle.seq_cost.specs.Different.{call_of}
-
--- the operations that are kept for a name
-unfoldable pub body_at : BodyCalls → Name → List OpName
-body_at t name = map call_of (listed (named t.calls name))
-
--- the calls that are kept for an operation
-unfoldable pub inner_at : Inner → OpName → List OpName
-inner_at t name = map call_of (listed (at t.calls name))
 
 -- an operation more, where it wasn't found before
 unfoldable pub found_more : List OpName → OpName → List OpName

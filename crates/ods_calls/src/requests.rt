@@ -99,6 +99,7 @@ fn greatest_of<'a>(
 }
 
 /// How often the bodies of an operation request an object so.
+#[tactic(auto, unfolding(crate::specs::Requested::bodies_at))]
 fn count_of<'a>(
     alloc: Global,
     links: &Links<'a>,
@@ -110,9 +111,9 @@ fn count_of<'a>(
     ensures { IfOk result (λ n. (inner : OpTree → ℕ) → Knows known.now inner → n
         ≡ min 2 (greatest_count (design_of links.now.design.now) target.now inner (bodies_at bodies.now (call_of op.entry.now)))) }
 {
-    match bodies.get(op) {
+    match bodies.find(op.object, op.op) {
         None => Ok(0),
-        Some(held) => greatest_of(alloc, links, target, known, held),
+        Some(held) => greatest_of(alloc, links, target, known, held.as_slice()),
     }
 }
 

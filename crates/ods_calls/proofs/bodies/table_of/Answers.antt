@@ -13,7 +13,7 @@ calls-preserved c = λ n.
     added_step (λ (bs : List OpCalls). flat_map (held_named n) (filter is_held (map calls_of bs))) _
     c.args.calls.now c.calls.body-index body (bodies_at c.calls.table n) _ _
     (λ ys. flat_filter_first (held_named n) is_held (calls_of body) (map calls_of ys))
-    c.calls-test.true c.body-item.is (c.in_ok-add.ensures n) (c.calls.invariant n)
+    c.calls-test.true c.body-item.is (c.in_ok-add_body.ensures n) (c.calls.invariant n)
 
 pub returns : goal.returns
 returns c =

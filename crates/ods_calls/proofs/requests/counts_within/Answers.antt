@@ -9,7 +9,8 @@ use Rattle.name_sets.specs.Tables.{or_0}
 use Rattle.ods_tree.specs.Trees.{design_of}
 use Rattle.design_rules.specs.Sources.{starts_within}
 use Rattle.ods_calls.specs.Requested.{AreDue, Knows, bodies_at, changes, greatest_count, known_in}
-use Rattle.ods_calls.specs.Spreading.{body_at, found_all, inner_at}
+use Rattle.ods_calls.specs.Requesters.{by_object, by_op}
+use Rattle.ods_calls.specs.Spreading.{found_all}
 use Rattle.ods_calls.proofs.RequestLaws.{deeper-count, first-due, next-due, next-known, none-due, none-left, same-unless}
 use Rattle.ods_calls.proofs.requests.counts_within.Goals as goal
 use Rattle.seq_cost.specs.Different.{call_of}
@@ -21,7 +22,7 @@ levels-init c =
     let target = c.args.target.now in (
       λ n. ap or_0 (c.new-known.ensures n),
       subst (AreDue x target 0) (sym c.in_ok-due.ensures)
-          (first-due x target (body_at c.args.callers.now.objects target) (c.requires.called.objects target)),
+          (first-due x target (by_object c.args.callers.now.objects target) (c.requires.called.objects target)),
     )
 
 pub levels-preserved : goal.levels-preserved
@@ -55,12 +56,12 @@ levels-preserved c =
     ≡ min 2 (starts_within (suc depth) x target n) =
     same-unless x target depth due known counts c.levels.invariant.0 c.levels.invariant.1 count in
     let found = map call_of c.in_ok-due-2.due.items in
-    let later : found ≡ found_all [] (flat_map (inner_at c.args.callers.now.ops) new) =
-    c.in_ok-due-2.ensures ∙ ap (λ os. found_all [] (flat_map (inner_at c.args.callers.now.ops) os)) callers in
+    let later : found ≡ found_all [] (flat_map (by_op c.args.callers.now.ops) new) =
+    c.in_ok-due-2.ensures ∙ ap (λ os. found_all [] (flat_map (by_op c.args.callers.now.ops) os)) callers in
     let P : ℕ → Type 0 = λ d. Knows next (starts_within d x target) × AreDue x target d found in
     subst P (sym (add-one depth)) (
       next-known x target depth due known counts (known_in next) c.levels.invariant.0 c.levels.invariant.1 count is,
-      subst (AreDue x target (suc depth)) (sym later) (next-due x target depth (inner_at c.args.callers.now.ops) new c.requires.called.ops same),
+      subst (AreDue x target (suc depth)) (sym later) (next-due x target depth (by_op c.args.callers.now.ops) new c.requires.called.ops same),
     )
 
 pub returns-then-is_empty : goal.returns-then-is_empty

@@ -121,7 +121,7 @@ module _ (cs : List Caller) (place : OpName → Option ℕ) (placed : (n : OpNam
             by m (Some q) e l = reached-found m q e (sound q l)
 
         -- what is called at first, or at a place that is marked, is what calls lead to
-        pub follow_sound : (n : OpName) → after n ≡ true → IsFound (Makes cs) begun n
+        follow_sound : (n : OpName) → after n ≡ true → IsFound (Makes cs) begun n
         follow_sound n h = by (is_led_to place marks cs n) refl (sym (added n) ∙ h)
           where
             by : (t : Bool) → is_led_to place marks cs n ≡ t → (t || list_any (λ m. same_op m n) begun) ≡ true → IsFound (Makes cs) begun n
@@ -149,7 +149,7 @@ module _ (cs : List Caller) (place : OpName → Option ℕ) (placed : (n : OpNam
             let v = op-source via next leads.1.0 in
             led-by (next ∷ path) via n v.0 v.1 (reached-more step is_start s v.0 reached (op-forth from via s v.0 leads.0 at v.1)) leads.1
 
-        pub follow_complete : (n : OpName) → IsFound (Makes cs) begun n → after n ≡ true
+        follow_complete : (n : OpName) → IsFound (Makes cs) begun n → after n ≡ true
         follow_complete n (m, start, inl same) =
             let P : OpName → Type 0 = λ z. list_any (same_op z) begun ≡ true in
             added n ∙ or_right (is_led_to place marks cs n) (list_any (λ k. same_op k n) begun)
@@ -162,3 +162,6 @@ module _ (cs : List Caller) (place : OpName → Option ℕ) (placed : (n : OpNam
             by : (rest : List OpName) → LeadsTo (Makes cs) m rest n → is_led_to place marks cs n ≡ true
             by [] l = (let p = op-source m n l in led-by [] m n p.0 p.1 (begin p.0 p.1) l)
             by (v ∷ rest) l = (let p = op-source m v l.0 in led-by (v ∷ rest) m n p.0 p.1 (begin p.0 p.1) l)
+
+        pub follow_found : (n : OpName) → (after n ≡ true → IsFound (Makes cs) begun n) × (IsFound (Makes cs) begun n → after n ≡ true)
+        follow_found n = (follow_sound n, follow_complete n)

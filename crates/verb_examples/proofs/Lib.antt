@@ -5,6 +5,8 @@ mod CommandExamples
 mod MessageExamples
 mod ToldExamples
 mod AnalysisExamples
+mod MarginExamples
+mod SearchExamples
 mod MakeExamples
 mod DeliverExamples
 mod VerbExamples

@@ -14,10 +14,10 @@ use Rattle.rt_response.proofs.Shared.Least.{miss-none_fits}
 use Rattle.design_bounds.specs.Analyses.{IsMissed}
 use Rattle.law_scaling.specs.Parts.{Part}
 use Rattle.law_scaling.specs.Scaling.{scaled}
-use Rattle.law_scaling.specs.Holding.{Holds, IsGreatest, scaled_rows}
+use Rattle.law_scaling.specs.Holding.{Holds, HoldsIn, IsGreatest, scaled_rows}
 use Rattle.law_scaling.proofs.Shared.Holding.{holds-less}
-use Rattle.scaling.specs.Failures.{Fails, IsFailureIn, IsNamed}
-use Rattle.scaling.specs.Margins.{IsNext, IsMargin, HasNoMargin, Scales}
+use Rattle.scaling.specs.Failures.{Fails, FailsIn, IsFailureIn, IsNamed}
+use Rattle.scaling.specs.Margins.{IsNext, IsMargin, IsMarginIn, HasNoMargin, Scales}
 use Rattle.scaling.specs.declared.margin.Next.TheVariants.{Limit, Cost, Miss}
 use Rattle.scaling.specs.declared.margin.ScaleFault.TheVariants as fault
 
@@ -177,3 +177,34 @@ named = (refl, refl)
 
 otherwise_named : IsNamed (codes "p", None) (Cost (codes "p") (Some (codes "f"))) → ⊥
 otherwise_named h = let e = h.1 in cc
+
+-- OF ONE OBJECT ALONE
+-- that body alone is too dear as before, and the thread alone, which has no `work`, may grow without end
+dear_alone : FailsIn (Some (codes "p")) unused 500001 (Cost (codes "p") (Some (codes "f")))
+dear_alone = (1000002000, refl)
+
+not_by_the_thread : FailsIn (Some (codes "a")) unused 500001 (Cost (codes "p") (Some (codes "f"))) → ⊥
+not_by_the_thread h = let e = h.1 in cc
+
+not_next : IsNext (Some (codes "a")) unused 500000 (Cost (codes "p") (Some (codes "f"))) → ⊥
+not_next h = let e = h.1.1 in cc
+
+thread-holds : HoldsIn (Some (codes "a")) unused 1000000
+thread-holds = record {
+  cheap = refl;
+  bounds = record { jitter = 0; response = 2 } ∷ [];
+  fits = ((refl, ((zero-le, le_refl 2), tt)), ((omega arith, omega arith), tt));
+}
+
+no_failure_alone : IsFailureIn (Some (codes "a")) unused 1000000 None
+no_failure_alone = thread-holds
+
+thread-margin : IsMarginIn (Some (codes "a")) unused (record { per_mille = 1000000; next = Limit })
+thread-margin = record {
+  greatest = record {
+    within = (omega arith, omega arith);
+    holds = thread-holds;
+    above = λ n less most h. omega (arith, less, most);
+  };
+  next = refl;
+}

@@ -1,3 +1,4 @@
+pub mod Arguments
 pub mod Causes
 pub mod Shelves
 pub mod Sinks

@@ -2,6 +2,9 @@
 -- A shelf that tells nothing has None before and after, and no clause speaks of its files.
 use Rattle.std.specs.Prelude.{◌≡◌, ℕ, ◌<◌, ◌≤◌, Bool, true, false, List, [], ◌∷◌, ◌++◌, length, take, Option, Some, None, Result, Ok, Err}
 use Rattle.std.specs.Prelude.{IfSome, option_map}
+use Rattle.std.specs.IoError.{error_kind}
+use Rattle.std.specs.declared.io.Error.{Error}
+use Rattle.std.specs.declared.io.ErrorKind.TheVariants.{OutOfMemory}
 use Rattle.hood_io.specs.declared.shelf.Fetched.{Fetched}
 use Rattle.hood_io.specs.declared.shelf.Fetched.TheVariants.{Done, TooLong, Failed, NoMemory}
 use Rattle.hood_io.specs.Causes.{Rose, raised}
@@ -57,3 +60,11 @@ counted Done count = count
 counted TooLong count = count
 counted Failed count = raised count
 counted NoMemory count = count
+
+-- how a fetch ends, by how reading ended and whether what was read is within the limit: want of memory is told of that error alone
+abbrev pub Closes : Result (Unit {0}) Error → Bool → Fetched → Type 0
+Closes (Ok read) within Done = within ≡ true
+Closes (Ok read) within TooLong = within ≡ false
+Closes (Err e) within Failed = error_kind e ≡ OutOfMemory → ⊥
+Closes (Err e) within NoMemory = error_kind e ≡ OutOfMemory
+Closes read within _ = ⊥

@@ -1,5 +1,5 @@
 ghost use Rattle.std.specs.Prelude.{◌≡◌, ◌≤◌, ◌+◌, ◌-◌, ◌^◌, [], Some, min, take, IfSome, OnOk};
-ghost use Rattle.hood_io.specs.Shelves.{after_fetch, counted, opened, untold, IsFront, Says};
+ghost use Rattle.hood_io.specs.Shelves.{after_fetch, counted, opened, untold, Closes, IsFront, Says};
 
 use crate::shelf::{Fetched, Shelf};
 use std::alloc::Global;
@@ -34,6 +34,23 @@ fn read_front<S: Read + Drop>(from: S, limit: usize, into: &mut Vec<u8>) -> io::
     Ok(())
 }
 
+/// How a fetch ends, by how reading ended, and whether what was read is within the limit.
+fn ending(read: io::Result<()>, within: bool) -> Fetched
+    ensures { Closes read within result }
+{
+    match read {
+        Ok(()) => {
+            if within {
+                Fetched::Done
+            } else {
+                Fetched::TooLong
+            }
+        }
+        Err(e) if e.kind() == io::ErrorKind::OutOfMemory => Fetched::NoMemory,
+        Err(_) => Fetched::Failed,
+    }
+}
+
 /// What a fetch answers of a file that was opened, or could not be, and the count of faults after it: what every shelf says, of a shelf on
 /// which each name is of this file, where the file tells its bytes.
 fn fetch_opened<S: Read + Drop>(
@@ -52,15 +69,11 @@ fn fetch_opened<S: Read + Drop>(
         Ok(file) => read_front(file, limit, into),
         Err(error) => Err(error),
     };
-    match read {
-        Ok(()) if into.len() <= limit => Fetched::Done,
-        Ok(()) => Fetched::TooLong,
-        Err(e) if e.kind() == io::ErrorKind::OutOfMemory => Fetched::NoMemory,
-        Err(_) => {
-            *faults = faults.saturating_add(1);
-            Fetched::Failed
-        }
+    let answer = ending(read, into.len() <= limit);
+    if answer == Fetched::Failed {
+        *faults = faults.saturating_add(1);
     }
+    answer
 }
 
 impl<'a, R: Files> Shelf for FileShelf<'a, R> {

@@ -42,6 +42,8 @@ use Rattle.law_releases.proofs.Shared.Overruns.{never_overruns, releases_keep}
 use Rattle.law_releases.proofs.Shared.ExternalRequests.{external_asked}
 use Rattle.law_releases.proofs.Shared.InheritedJitter.{keeps_time}
 use Rattle.law_releases.proofs.Shared.Permitted.{permits}
+use Rattle.law_chains.specs.AtOnce.{IsServedAtOnce}
+use Rattle.law_chains.proofs.Shared.AtOnceSteps.{served_at_once}
 use Rattle.law_releases.proofs.Shared.ServedLaw.{served_while, all_requests_served}
 use Rattle.law_releases.proofs.Shared.ArrivalsTold.{are_told}
 use Rattle.law_written.proofs.Shared.EveryRun.{every_run}
@@ -348,6 +350,27 @@ module _ (limit : ℕ) (p : Program) (ts : List Ranked) (rows : List ThreadRow) 
         by (Periodic offset period) is = tt
         by (Requested op ceiling separation jitter external) is = never_so i t d h op ceiling separation jitter external is
 
+    -- the requests of a task of the table are served at once, where it is sporadic
+    at_once : (i : ℕ) (t : Ranked) → slice_get ts i ≡ Some t → IsServedAtOnce T t.task.name t.task.timing
+    at_once i t e = let P : flats.Timing → Type 0 = λ z. IsServedAtOnce T t.task.name z in subst P (timed_so t h) (by h.thread.timing refl)
+      where
+        h : HasThread p r t
+        h = thread_at i t e
+
+        d : IsTabled ts rows v i t
+        d = tabled_at p ts rows v tabled fits i t e
+
+        by : (timing : ReleasePattern) → h.thread.timing ≡ timing → IsServedAtOnce T t.task.name (timing_at timing)
+        by (Periodic offset period) is = tt
+        by (Requested op ceiling separation jitter external) is =
+            served_at_once (program_software p).tasks r.until t.task.name d.bound.response separation d.bound.jitter d.some
+            (within_so i t d h op ceiling separation jitter external is) T ordered (responds i t d)
+            (asked_keeps i t d h op ceiling separation jitter external is (λ s u e less. keeps_by (suc e.bound.jitter) s u e (omega arith)))
+            (serves t h op ceiling separation jitter external is)
+
+    pub all_at_once : Each (λ t. IsServedAtOnce T t.task.name t.task.timing) ts
+    all_at_once = each-by (λ t. IsServedAtOnce T t.task.name t.task.timing) ts at_once
+
     -- each task of the table is released on time, and its requests are served
     pub table_served : Each (λ t. IsPeriodic r.until T t.task.name t.task.timing × IsRequested T t.task.name t.task.timing) ts
     table_served = each-by (λ t. IsPeriodic r.until T t.task.name t.task.timing × IsRequested T t.task.name t.task.timing) ts (λ i t e.
@@ -399,3 +422,19 @@ served_tasks limit law p ts rows v r trace readable tabled fits accepted kept m 
       served = table_served limit p ts rows v r trace readable tabled fits accepted kept m b.0 b.1 starts;
       bounded = b.1;
     }
+
+-- with the law of responses: the requests of the sporadic tasks of a program that stand in a table that fits are served at once
+pub served_at_once_tasks : (limit : ℕ) → ProcessorResponds limit
+    → (p : Program) (ts : List Ranked) (rows : List ThreadRow) (v : List Bound) (r : places.Arrivals) (trace : List machine.Event)
+    → IsReadable p → AreTabled p ts rows → Fits rows v → IsAccepted limit p r
+    → AreKept limit (program_software p) (named_arrivals p r) → Meaning p r trace
+    → Starts p ts (named p trace)
+    → IsInOrder (program_software p).tasks r.until 0 (named p trace) × IsBounded (times_of ts v) r.until (named p trace)
+    × Each (λ t. IsServedAtOnce (named p trace) t.task.name t.task.timing) ts
+served_at_once_tasks limit law p ts rows v r trace readable tabled fits accepted kept m starts =
+    let b : NeverStops (named p trace) × IsBounded (times_of ts v) r.until (named p trace)
+    = law p ts rows v r trace readable tabled fits accepted m in (
+      ordered limit p ts rows v r trace readable tabled fits accepted kept m b.0 b.1,
+      b.1,
+      all_at_once limit p ts rows v r trace readable tabled fits accepted kept m b.0 b.1 starts,
+    )

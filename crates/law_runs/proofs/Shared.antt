@@ -4,3 +4,4 @@ pub mod DesignLaw
 pub mod KeptAccepted
 pub mod Worked
 pub mod WorkedBounds
+pub mod Chained

@@ -9,6 +9,7 @@
 //!
 //! - `Bounded`: every run of a program whose tasks all stand in a table that fits is permitted by the program's texts and within its
 //!   bounds, where the processor responds.
+//! - `Chained`: requests are served at once, and chains of requests respond within the response times along them, together.
 //! - `DesignLaw`: every run of the program of a proper design that meets the rules and has bounds is right, and a text with that program's
 //!   tokens is guaranteed.
 //! - `KeptAccepted`: arrivals that keep the separations of a program's software are accepted for the program: a name of an arrival is that
@@ -20,6 +21,7 @@
 
 ghost use Rattle.std.specs.Prelude.{ℕ};
 ghost use Rattle.law_runs.specs.Laws.{TabledRunsAreRight, TabledTasksAreServed, AcceptedWhereKept, SoundDesignsAreRight};
+ghost use Rattle.law_runs.specs.Chains.{TabledTasksAreServedAtOnce, TabledChainsRespond, DesignsServeAtOnce, DesignChainsRespond};
 ghost use Rattle.law_runs.specs.Laws.{DesignsAreRight, TextsAreGuaranteed, ReplaysAreRight};
 
 /// Every run of a program whose tasks all stand in a table that fits is permitted by the program's texts and within its bounds.
@@ -72,4 +74,36 @@ pub fn texts_are_guaranteed()
 /// So whoever replays the program needs nothing of the design: neither its rules nor its separations are asked of the arrivals again.
 pub fn replays_are_right()
     ensures { (limit : ℕ) → ReplaysAreRight limit }
+{}
+
+/// In every run of a program, requests of the sporadic tasks that stand in a table that fits are served at once: each by one release, at its
+/// own time and with its own value, before the next request of the task. So none is lost, and none is overwritten.
+///
+/// The program can be read and the arrivals are accepted. `limit` is the farthest horizon allowed, in ticks.
+pub fn tabled_tasks_are_served_at_once()
+    ensures { (limit : ℕ) → TabledTasksAreServedAtOnce limit }
+{}
+
+/// In every run of a program, a chain of tasks that stand in a table that fits, all but the first of them sporadic, responds within their
+/// response times together: each release of the first leads, by requests of each to the next, to ends of the last within that many ticks.
+///
+/// The program can be read and the arrivals are accepted. `limit` is the farthest horizon allowed, in ticks.
+pub fn tabled_chains_respond()
+    ensures { (limit : ℕ) → TabledChainsRespond limit }
+{}
+
+/// In every run of the program of a design that meets the rules and has bounds, each request of a sporadic thread is served at once: by one
+/// release, at its own time and with its own value, before the next request of the thread. So none is lost, and none is overwritten.
+///
+/// The arrivals are accepted. `limit` is the farthest horizon allowed, in ticks.
+pub fn designs_serve_at_once()
+    ensures { (limit : ℕ) → DesignsServeAtOnce limit }
+{}
+
+/// In every run of the program of a design that meets the rules and has bounds, a chain of its threads, all but the first of them sporadic,
+/// responds within their response times together: from a release of the first to the end of the last that it leads to.
+///
+/// The arrivals are accepted. `limit` is the farthest horizon allowed, in ticks.
+pub fn design_chains_respond()
+    ensures { (limit : ℕ) → DesignChainsRespond limit }
 {}

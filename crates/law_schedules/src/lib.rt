@@ -15,6 +15,7 @@ ghost use Rattle.rt_response.specs.declared.rows.ThreadRow.{ThreadRow};
 ghost use Rattle.rt_response.specs.declared.rows.Bound.{Bound};
 ghost use Rattle.rt_response.specs.Tables.{IsTable};
 ghost use Rattle.rt_response.specs.Response.{Fits};
+ghost use Rattle.law_schedules.specs.Rests.{ChainsRest, LevelsRest};
 ghost use Rattle.law_schedules.specs.Schedules.{Schedule, IsSchedule, AllOnTime, horizon};
 
 /// In every schedule of a table of `respond`'s condition and of a vector that fits it, each activation
@@ -23,4 +24,16 @@ ghost use Rattle.law_schedules.specs.Schedules.{Schedule, IsSchedule, AllOnTime,
 pub fn schedules_respond()
     ensures { (rows : List ThreadRow) (v : List Bound) (s : Schedule) → IsTable rows → Fits rows v → IsSchedule rows v s
         → AllOnTime rows v s (horizon s) }
+{}
+
+/// From any time on, a level rests within its response time: a time comes at which all of its activations that were released before are
+/// over.
+pub fn levels_rest()
+    ensures { LevelsRest }
+{}
+
+/// A chain of activations of a level, each released before the one before it is over, is over within the response time of the level, from the
+/// release of its first on. So a chain takes no longer than the response time of its thread of lowest priority.
+pub fn chains_rest()
+    ensures { ChainsRest }
 {}

@@ -9,3 +9,4 @@ pub mod Ceilings
 pub mod Designs
 pub mod Bases
 pub mod PartCosts
+pub mod Causes

@@ -8,6 +8,7 @@
 
 mod bases;
 mod calls;
+mod causes;
 mod ceilings;
 mod facts;
 mod operations;
@@ -19,6 +20,7 @@ mod spread;
 mod starters;
 mod tables;
 
+pub use causes::{Cause, causes_of};
 pub use facts::Facts;
 pub use parts::part_costs;
 pub use tables::{blocking, facts_of, table};

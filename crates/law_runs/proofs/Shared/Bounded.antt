@@ -28,7 +28,7 @@ use Rattle.law_calls.proofs.Shared.Places.{all-at}
 use Rattle.law_calls.proofs.Shared.Lists.{each-map}
 
 -- requests inside a program are asked once
-program_starts : (limit : ℕ) (p : Program) (ts : List Ranked) (rows : List ThreadRow) (r : places.Arrivals) (trace : List machine.Event)
+pub program_starts : (limit : ℕ) (p : Program) (ts : List Ranked) (rows : List ThreadRow) (r : places.Arrivals) (trace : List machine.Event)
     → IsReadable p → AreTabled p ts rows → IsAccepted limit p r → Meaning p r trace
     → Starts p ts (named p trace)
 program_starts limit p ts rows r trace readable tabled accepted m t k row op separation e here timing =

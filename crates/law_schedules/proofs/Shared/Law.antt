@@ -29,7 +29,7 @@ row-positive rows i row table asks =
     omega arith
 
 -- a response time is at least a tick
-response-some : (rows : List ThreadRow) (v : List Bound) (i : ℕ) (row : ThreadRow) (b : Bound) → IsTable rows → Fits rows v
+pub response-some : (rows : List ThreadRow) (v : List Bound) (i : ℕ) (row : ThreadRow) (b : Bound) → IsTable rows → Fits rows v
     → slice_get rows i ≡ Some row → slice_get v i ≡ Some b → 1 ≤ b.response
 response-some rows v i row b table fits asks gets =
     let is = row-at rows i row table asks in
@@ -88,11 +88,11 @@ none-late rows v s t i low row b window least pending late =
     absurd (omega (arith, passing-or level ticks, level-ticks i s.activations ticks, less, most, equation))
 
 -- a start of a level after one time and by another
-record IsNext (s : Schedule) (i low high : ℕ) : Type 0 where
-  time : ℕ
-  after : low < time
-  by : time ≤ high
-  start : IsStart s i time
+pub record IsNext (s : Schedule) (i low high : ℕ) : Type 0 where
+  pub time : ℕ
+  pub after : low < time
+  pub by : time ≤ high
+  pub start : IsStart s i time
 
 over-before : (end : Option ℕ) (t : ℕ) → is_over end (suc t) ≡ false → is_over end t ≡ false
 over-before None t h = refl
@@ -147,7 +147,7 @@ next-start rows v s t i low row b window least =
     go (inr pending) (inr late) = absurd (none-late rows v s t i low row b window least pending late)
 
 -- the first start after a release comes within the response time from that release on
-start-after : (rows : List ThreadRow) (v : List Bound) (s : Schedule) (t i : ℕ) (row : ThreadRow) (b : Bound) (r : ℕ) → IsTable rows → Fits rows v
+pub start-after : (rows : List ThreadRow) (v : List Bound) (s : Schedule) (t i : ℕ) (row : ThreadRow) (b : Bound) (r : ℕ) → IsTable rows → Fits rows v
     → IsReady rows v s t
     → slice_get rows i ≡ Some row → slice_get v i ≡ Some b → 1 ≤ b.response → r + b.response ≤ suc t
     → (d low : ℕ) → IsStart s i low → low ≤ r → r ≤ low + d → IsNext s i r (r + b.response)

@@ -1,0 +1,65 @@
+#!/usr/bin/env python3
+"""What is proved again when crates change, and for how long.
+
+    above.py CRATE ..
+
+Prints the crates that stand on these, directly or through others, each with the processor seconds that docs/GATE.md has for its proof, its tests and
+its edits, and their sum. An edit of a body alone proves the crates above again too. A crate without a row there is told as such.
+"""
+import os
+import re
+import sys
+
+TOP = os.path.dirname(os.path.dirname(os.path.dirname(os.path.abspath(__file__))))
+
+
+def read_below(path):
+    """For each crate of crates.txt the crates on which it stands directly."""
+    below = {}
+    with open(path) as text:
+        for line in text:
+            name, colon, libraries = line.partition('#')[0].partition(':')
+            if colon:
+                below[name.split()[0]] = libraries.split()
+    return below
+
+
+def read_seconds(path):
+    """For each crate with a row in the table of docs/GATE.md its processor seconds."""
+    seconds = {}
+    with open(path) as text:
+        for line in text:
+            row = re.fullmatch(r'\| (\w+) \| *(\d*) *\| *(\d*) *\| *(\d*) *\|', line.strip())
+            if row:
+                seconds[row[1]] = sum(int(number) for number in row.groups()[1:] if number)
+    return seconds
+
+
+def all_above(changed, below):
+    """These crates and all that stand on them."""
+    again = set(changed)
+    while True:
+        more = {name for name, libraries in below.items() if again & set(libraries)} - again
+        if not more:
+            return again
+        again |= more
+
+
+def main():
+    below = read_below(os.path.join(TOP, 'crates.txt'))
+    seconds = read_seconds(os.path.join(TOP, 'docs', 'GATE.md'))
+    changed = sys.argv[1:]
+    if not changed:
+        sys.exit(__doc__)
+    for name in changed:
+        if name not in below:
+            sys.exit(f'above.py: {name} is no crate of crates.txt')
+    again = all_above(changed, below)
+    for name in sorted(again, key=lambda name: (-seconds.get(name, 0), name)):
+        print(f'{seconds[name]:5} {name}' if name in seconds else f'    ? {name}')
+    whole = sum(seconds.get(name, 0) for name in again)
+    print(f'{len(again)} of {len(below)} crates, {whole} processor seconds, {(whole + 59) // 60} minutes')
+
+
+if __name__ == '__main__':
+    main()

@@ -1,0 +1,99 @@
+#!/usr/bin/env python3
+"""The table of the crates in docs/ARCHITECTURE.md, made from the heads of their root files.
+
+    crate_table.py          fails where that page has another one
+    crate_table.py --write  puts it into that page
+    crate_table.py --print  prints it
+
+A row has the crate, the first sentence of its head, and its door: the functions and types that its root file makes public. Crates come in the order of
+crates.txt.
+"""
+import os
+import re
+import sys
+
+top = os.path.dirname(os.path.dirname(os.path.dirname(os.path.realpath(__file__))))
+page = f'{top}/docs/ARCHITECTURE.md'
+MOST = 8
+
+
+def read(path):
+    with open(path, encoding='utf-8') as text:
+        return text.read()
+
+
+def crates():
+    """The names in crates.txt, in its order."""
+    for line in read(f'{top}/crates.txt').split('\n'):
+        line = line.split('#')[0]
+        if ':' in line:
+            yield line.split(':')[0].split()[0]
+
+
+def root_of(crate):
+    for name in ('lib.rt', 'main.rt'):
+        path = f'{top}/crates/{crate}/src/{name}'
+        if os.path.isfile(path):
+            return read(path)
+    sys.exit(f'crate_table.py: crate {crate} has no root file')
+
+
+def first_sentence(crate, text):
+    head = []
+    for line in text.split('\n'):
+        if not line.startswith('//!') or line == '//!':
+            break
+        head.append(line[3:].strip())
+    found = re.match(r'(.+?)\.(?: |$)', ' '.join(head))
+    if not found:
+        sys.exit(f'crate_table.py: the root file of {crate} begins with no sentence')
+    return found.group(1).replace('|', r'\|')
+
+
+def door(text):
+    names = re.findall(r'^pub (?:unsafe |extern "C" )?fn (\w+)', text, re.M)
+    for group in re.findall(r'^pub use [\w:]+::(\{[^}]*\}|\w+);', text, re.M):
+        names += [name.strip() for name in group.strip('{}').split(',') if name.strip()]
+    calls = [f'`{name}`' for name in names if name[0].islower()]
+    types = [f'`{name}`' for name in names if name[0].isupper()]
+    told = calls + types
+    if not told:
+        return 'none'
+    more = len(told) - MOST
+    return ', '.join(told[:MOST]) + (f' and {more} more' if more > 0 else '')
+
+
+def table():
+    rows = ['| Crate | Has | Its door |', '|---|---|---|']
+    for crate in crates():
+        text = root_of(crate)
+        rows.append(f'| {crate} | {first_sentence(crate, text)} | {door(text)} |')
+    return '\n'.join(rows) + '\n'
+
+
+def in_page(text):
+    """Where the table stands in the page."""
+    found = re.search(r'^\| Crate \| Has \| Its door \|\n(?:\|.*\n)+', text, re.M)
+    if not found:
+        sys.exit('crate_table.py: docs/ARCHITECTURE.md has no table of the crates')
+    return found.span()
+
+
+def main(words):
+    if words == ['--print']:
+        print(table(), end='')
+        return
+    text = read(page)
+    begin, end = in_page(text)
+    if words == ['--write']:
+        with open(page, 'w', encoding='utf-8') as it:
+            it.write(text[:begin] + table() + text[end:])
+    elif not words:
+        if text[begin:end] != table():
+            sys.exit('crate_table.py: the table of the crates in docs/ARCHITECTURE.md is not that of their root files; tools/source/crate_table.py --write mends it')
+        print(f'crate_table.py: {table().count(chr(10)) - 2} crates, all as in docs/ARCHITECTURE.md')
+    else:
+        sys.exit(__doc__)
+
+
+main(sys.argv[1:])

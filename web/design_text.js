@@ -49,7 +49,7 @@ const ATTRIBUTES = ["period", "offset", "separation", "deadline", "thread_budget
 const CONSTRAINTS = ["aser", "hser", "pser", "paer"];
 const COSTS = ["assign", "test", "turn", "call", "null", "put", "finish"];
 const UNITS = ["us", "ms", "s"];
-const SECTIONS = ["attributes", "provides", "requires", "data", "operation", "thread", "objects", "implements"];
+export const SECTIONS = ["attributes", "provides", "requires", "data", "operation", "thread", "objects", "implements"];
 const COMPARISONS = ["=", "/=", "<", "<=", ">", ">="];
 const STATEMENTS = ["null", "if", "for", "exit", "work", "put"];
 const DEEP = 64;
@@ -539,5 +539,3 @@ export function shownWord(/** @type {string} */ word) {
   const isSmall = UNITS.includes(word) || STATEMENTS.includes(word) || /^(then|elsif|else|in|out|loop|when|range|mod|and|or|xor|not|word|if)$/.test(word);
   return `\`${/^\w/.test(word) && !isSmall ? word.toUpperCase() : word}\``;
 }
-
-export { SECTIONS };

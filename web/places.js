@@ -2,7 +2,7 @@
 // decided here: where nothing is found, the place is that of the object's name.
 "use strict";
 
-import { objectsOf, readDesign, tokensOf } from "./design_text.js";
+import { SECTIONS, objectsOf, readDesign, tokensOf } from "./design_text.js";
 
 /** @typedef {import("./design_text.js").Token} Token */
 /** @typedef {import("./design_text.js").Design} Design */
@@ -520,12 +520,10 @@ function endsThere(/** @type {Token|null} */ token, /** @type {Token|undefined} 
   return token === null || before?.word === "end" || ["object", "end", "operation", "thread", "implements"].includes(token.word);
 }
 
-const ORDER = ["attributes", "provides", "requires", "data", "operation", "thread", "objects", "implements"];
-
 /** The first section of an object that is there and is to stand behind another. */
 function sectionBehind(/** @type {DesignObject} */ object, /** @type {string} */ word) {
-  const rank = ORDER.indexOf(word);
-  return rank < 0 ? undefined : [...object.sections].find(([name]) => ORDER.indexOf(name) > rank);
+  const rank = SECTIONS.indexOf(word);
+  return rank < 0 ? undefined : [...object.sections].find(([name]) => SECTIONS.indexOf(name) > rank);
 }
 
 // ---- All lines ----

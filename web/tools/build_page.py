@@ -15,7 +15,9 @@ import re
 import sys
 
 TOP = os.path.dirname(os.path.dirname(os.path.dirname(os.path.abspath(__file__))))
-SCRIPTS = ('refusals', 'texts', 'runs', 'traces', 'trace_places', 'chart', 'bounds', 'timeline', 'verbs', 'page')
+# Modules, each behind those that it imports, with what the scripts of the page use of them; then the scripts, which share their names.
+MODULES = (('design_text', ('tokensOf',)), ('places', ('markOf',)), ('refusals', ('Refusals',)))
+SCRIPTS = ('texts', 'runs', 'traces', 'trace_places', 'chart', 'bounds', 'timeline', 'verbs', 'page')
 # What the page calls an example, and its texts: a design, arrivals and for some a trace.
 EXAMPLES = (
     ('Mine pump', 'mine_pump.design', 'one_water_alarm.arrivals', 'one_water_alarm.trace'),
@@ -48,9 +50,22 @@ def examples():
     return {name: {kind: text_of('examples', file) for kind, file in zip(kinds, files)} for name, *files in EXAMPLES}
 
 
+def module(name, used):
+    """A module as a part of the one script: a function that is called at once, whose value is what it exports."""
+    text = text_of('web', name + '.js')
+    text = re.sub(r'^import (\{[^}]*\}) from "\./(\w+)\.js";$', r'const \1 = module_\2;', text, flags=re.M)
+    exports = re.findall(r'^export (?:const|function|class) (\w+)', text, flags=re.M)
+    text = re.sub(r'^export (?=const|function|class)', '', text, flags=re.M)
+    if re.search(r'^(import|export)\b', text, flags=re.M):
+        sys.exit(f'build_page: {name}.js imports or exports in a form that is not known')
+    return (f'const module_{name} = (() => {{\n{text}\nreturn {{ {", ".join(exports)} }};\n}})();\n'
+            f'const {{ {", ".join(used)} }} = module_{name};')
+
+
 def scripts():
-    """The scripts as one. None of them may end the element in which they stand."""
-    whole = '\n'.join(text_of('web', name + '.js') for name in SCRIPTS)
+    """The modules and scripts as one. None of them may end the element in which they stand."""
+    parts = [module(name, used) for name, used in MODULES] + [text_of('web', name + '.js') for name in SCRIPTS]
+    whole = '\n'.join(parts)
     if re.search('</script|<!--', whole, re.IGNORECASE):
         sys.exit('build_page: a script would end its element')
     return whole
@@ -86,6 +101,7 @@ def main():
         'KIT': html.escape(told[3]),
         'EXAMPLES': as_script(examples()),
         'CHART': as_script(chart),
+        'REFUSALS': as_script(json.loads(text_of('web', 'refusals.json'))),
         'WORKER': as_script(text_of('web', 'library_host.js') + text_of('web', 'library_worker.js')),
         'MODULE': encoded,
         'SCRIPT': scripts(),

@@ -6,13 +6,15 @@
 //     node tools/hrthood.mjs --made          prints the version, the checksum of the sources and the kit of the page
 //
 // It answers words as the program does: statuses 0 to 5, the bytes of both streams, and files read in their order and up to one byte more than they
-// may have. Status 125 is none of the program's: there is no page, this node can't run its module, or the module has no memory left.
+// may have. Status 125 is none of the program's: there is no page, this node can't run its module, or the module has no memory left. On a terminal a
+// refusal is told in words too, where tools/report/told_at.mjs is there.
 //
 // Node opens a closed stream anew, on /dev/null, before this code runs. So where standard output is closed all is taken (./hrthood prevents it).
-import fs from "node:fs";
-import path from "node:path";
-import { fileURLToPath } from "node:url";
-import v8 from "node:v8";
+import { closeSync, existsSync, openSync, readFileSync, readSync, realpathSync, writeSync } from "node:fs";
+import { dirname, join } from "node:path";
+import { isatty } from "node:tty";
+import { fileURLToPath, pathToFileURL } from "node:url";
+import { setFlagsFromString } from "node:v8";
 
 /**
  * @typedef {{ status: number, out: Uint8Array, err: Uint8Array }} Answer
@@ -20,6 +22,7 @@ import v8 from "node:v8";
  * @typedef {{ words: Uint8Array[], texts: Record<string, Uint8Array>, unread?: string }} Request
  */
 
+const HERE = dirname(realpathSync(fileURLToPath(import.meta.url)));
 const PAGE = "lafomizana.html";
 const MOST_MEMORY = 2 ** 32 - 65536; // bytes of the module's memory
 const FIRST_ROOM = 2 ** 20; // bytes of standard output
@@ -48,7 +51,7 @@ class NoAnswer extends Error {}
 function isWritten(stream, bytes) {
   try {
     for (let at = 0; at < bytes.length; ) {
-      const count = fs.writeSync(stream, bytes, at, bytes.length - at);
+      const count = writeSync(stream, bytes, at, bytes.length - at);
       if (count === 0) return false;
       at += count;
     }
@@ -63,10 +66,9 @@ function isWritten(stream, bytes) {
  * @returns {string}
  */
 function textOfPage() {
-  const here = path.dirname(fs.realpathSync(fileURLToPath(import.meta.url)));
-  const file = [path.dirname(here), here].map((folder) => path.join(folder, PAGE)).find((name) => fs.existsSync(name));
-  if (file === undefined) throw new NoAnswer(`there is no ${PAGE} beside ${here}`);
-  return fs.readFileSync(file, "latin1");
+  const file = [dirname(HERE), HERE].map((folder) => join(folder, PAGE)).find((name) => existsSync(name));
+  if (file === undefined) throw new NoAnswer(`there is no ${PAGE} beside ${HERE}`);
+  return readFileSync(file, "latin1");
 }
 
 /**
@@ -92,7 +94,7 @@ const hasMemory64 = () => WebAssembly.validate(Uint8Array.of(0, 0x61, 0x73, 0x6d
  */
 function moduleOf(page) {
   // An engine in which such a memory is not on by default takes this flag while it runs, before it compiles the module.
-  if (!hasMemory64()) v8.setFlagsFromString("--experimental-wasm-memory64");
+  if (!hasMemory64()) setFlagsFromString("--experimental-wasm-memory64");
   if (!hasMemory64()) throw new NoAnswer(`node ${process.versions.node} has no WebAssembly memory of 64 bits: node 20 or later has`);
   const module = new WebAssembly.Module(Buffer.from(between(page, 'const MODULE = "', '"'), "base64"));
   const host = JSON.parse(between(page, "const WORKER = ", ";\n"));
@@ -108,7 +110,7 @@ function givenWords() {
   if (!words.some((word) => word.includes("\ufffd"))) return words;
   // Node puts U+FFFD for bytes that are not UTF-8. Where the system tells the bytes, they decide.
   try {
-    const bytes = fs.readFileSync("/proc/self/cmdline");
+    const bytes = readFileSync("/proc/self/cmdline");
     return Buffer.from(bytes.toString()).equals(bytes) ? words : [];
   } catch {
     return words;
@@ -134,19 +136,19 @@ function operandsOf(usage, verb) {
  * @param {number} most
  */
 function prefixOf(name, most) {
-  const file = fs.openSync(name, "r");
+  const file = openSync(name, "r");
   try {
     const pieces = [];
     for (let left = most; left > 0; ) {
       const piece = Buffer.allocUnsafe(Math.min(left, 2 ** 20));
-      const count = fs.readSync(file, piece, 0, piece.length, null);
+      const count = readSync(file, piece, 0, piece.length, null);
       if (count === 0) break;
       pieces.push(piece.subarray(0, count));
       left -= count;
     }
     return Buffer.concat(pieces);
   } finally {
-    fs.closeSync(file);
+    closeSync(file);
   }
 }
 
@@ -200,30 +202,41 @@ function requestOf(words, letters) {
 }
 
 /**
- * Runs the request, writes what the program writes, and returns its status. A run is the same each time; so where it had too little room for standard
- * output, the prefix is written, and the run is repeated with more room.
+ * Writes a refusal in words, at its place in the file, below the program's own line: on a terminal, or as HRTHOOD_WORDS says (always, never).
+ * @param {Uint8Array} err
+ * @param {string[]} words
+ */
+async function writeWords(err, words) {
+  const asked = process.env.HRTHOOD_WORDS;
+  const script = join(HERE, "report", "told_at.mjs");
+  if (asked === "never" || (asked !== "always" && !isatty(2)) || !existsSync(script)) return;
+  const { allWords } = await import(pathToFileURL(script).href);
+  isWritten(2, Buffer.from(allWords(Buffer.from(err).toString(), words)));
+}
+
+/**
+ * Runs the request, writes what the program writes on standard output, and returns its status and standard error. A run is the same each time; so
+ * where it had too little room for standard output, the prefix is written, and the run is repeated with more room.
  * @param {{ module: WebAssembly.Module, runBytes: RunBytes }} program
  * @param {Request} request
+ * @returns {{ status: number, err: Uint8Array }}
  */
 function answer({ module, runBytes }, { words, texts, unread }) {
   let written = 0;
   for (let room = FIRST_ROOM; ; room *= 8) {
     const { status, out, err } = runBytes(module, words, texts, room, MOST_MEMORY);
     if (!isWritten(1, out.subarray(written))) {
-      isWritten(2, Buffer.from("fault writing\n"));
-      return WRITE_FAULT;
+      return { status: WRITE_FAULT, err: Buffer.from("fault writing\n") };
     }
     written = out.length;
-    if (status !== WRITE_FAULT) {
-      isWritten(2, status === READ_FAULT && unread !== undefined ? Buffer.from(`fault reading ${unread}\n`) : err);
-      return status;
-    }
+    if (status === READ_FAULT && unread !== undefined) return { status, err: Buffer.from(`fault reading ${unread}\n`) };
+    if (status !== WRITE_FAULT) return { status, err };
     if (room >= MOST_ROOM) throw new NoAnswer(`the answer has more than ${MOST_ROOM} bytes, of which this prefix is written`);
   }
 }
 
 /** Runs the words of the command line, and returns the status. */
-function main() {
+async function main() {
   const page = textOfPage();
   if (process.argv[2] === "--made") {
     const made = between(page, '<meta name="made" content="', '"');
@@ -233,11 +246,14 @@ function main() {
   // Without words the module answers its usage line, which has all verbs and their operands.
   const usage = program.runBytes(program.module, [], {}, 1, MOST_MEMORY);
   const words = givenWords();
-  return answer(program, requestOf(words, operandsOf(Buffer.from(usage.err).toString(), words[0])));
+  const { status, err } = answer(program, requestOf(words, operandsOf(Buffer.from(usage.err).toString(), words[0])));
+  isWritten(2, err);
+  await writeWords(err, words);
+  return status;
 }
 
 try {
-  process.exitCode = main();
+  process.exitCode = await main();
 } catch (fault) {
   isWritten(2, Buffer.from(`hrthood: no answer by node: ${fault instanceof NoAnswer ? fault.message : fault}\n`));
   process.exitCode = NO_ANSWER;

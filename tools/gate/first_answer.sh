@@ -113,7 +113,13 @@ tell() {
             break
         fi
     done
-    [ -z "$told" ] || printf '%s\n' "$told" >&2
+    [ -n "$told" ] || return
+    printf '%s\n' "$told" >&2
+    # In words too, where ./hrthood found that they are wanted.
+    if [ "${HRTHOOD_WORDS-}" = always ]; then
+        printf '%s\n' "$told" >"$scratch/told"
+        node "$top/tools/report/told_at.mjs" --words "$scratch/told" "$@" >&2
+    fi
 }
 
 scratch=$(mktemp -d) || exit 125

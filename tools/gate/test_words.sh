@@ -22,7 +22,7 @@ compare() {
 }
 
 # A clone of the wrapper's own files, one crate, and a path that has neither `rt` nor `node`.
-mkdir -p clone/crates/hrthood/src clone/crates/hrthood/specs clone/crates/hrthood/proofs clone/tools clone/examples/wanted path
+mkdir -p clone/crates/hrthood/src clone/crates/hrthood/specs clone/crates/hrthood/proofs clone/tools clone/examples/wanted path kit
 cp -R "$top/hrthood" "$top/VERSION" clone
 cp -R "$top/tools/gate" "$top/tools/hrthood.mjs" clone/tools
 cp "$top/examples/wanted/usage" clone/examples/wanted
@@ -38,7 +38,7 @@ version=$(cat clone/VERSION)
 
 # Runs the wrapper of the clone on words.
 wrapper() {
-    PATH=$room/path "./${name:-clone/hrthood}" "$@"
+    PATH=$room/kit:$room/path "./${name:-clone/hrthood}" "$@"
 }
 
 # The same, and sets status, out and err.
@@ -85,8 +85,8 @@ compare 'neither a program nor rt: standard error' "$(grep -c 'there is no node'
 compare 'nothing was made' "$(listed)" "$before"
 
 # A commit and a kit.
-printf '#!/bin/sh\n[ "$1" = version ] && echo "kit-1 logic 2" && exit\n' >path/rt
-chmod +x path/rt
+printf '#!/bin/sh\n[ "$1" = version ] && echo "kit-1 logic 2" && exit\n' >kit/rt
+chmod +x kit/rt
 (cd clone && git init -q . && git -c user.name=a -c user.email=a@b -c commit.gpgsign=false commit -q --allow-empty -m a) >/dev/null 2>&1
 commit=$(git -C clone rev-parse --short=8 HEAD)
 run --version
@@ -112,7 +112,7 @@ run check 'a b.design'
 compare 'a page with a mark' "$out" "$by_node"
 wrapper check 'a b.design' >&- 2>err_file
 compare 'a page, standard output closed' $? 4
-rm path/rt
+rm kit/rt
 run check 'a b.design'
 compare 'a page without a kit here' "$out" "$by_node"
 run --version
@@ -122,7 +122,7 @@ run check 'a b.design'
 compare 'a page of another kit, without a kit here' "$out" "$by_node"
 
 # A page of other sources or of another kit is not run: the answer is one without proof, which is said once, and no proof is started.
-cat >path/rt <<'END'
+cat >kit/rt <<'END'
 #!/bin/sh
 [ "$1" = version ] && echo "kit-1 logic 2" && exit
 echo "rt $*" >>"$RT_CALLS"
@@ -131,7 +131,7 @@ echo 'checked: ended status=1' >&2
 echo 'run=ended status=1 proved=no' >&2
 exit 1
 END
-chmod +x path/rt
+chmod +x kit/rt
 export RT_CALLS=$room/rt_calls
 unproved() {
     : >rt_calls
@@ -168,6 +168,23 @@ run check x.design
 compare 'a proved binary: status' "$status" 1
 compare 'a proved binary' "$out" 'proved: check x.design'
 compare 'a proved binary: standard error' "$err" ''
+# In words where they are asked for, or on a terminal: by node, if there is one.
+export HRTHOOD_WORDS=always
+run check x.design
+compare 'words without node' "$out" 'proved: check x.design'
+printf '#!/bin/sh\necho "by node: $*"\n' >path/node
+chmod +x path/node
+run check x.design
+in_words="by node: $room/clone/tools/report/told_at.mjs --run $room/clone/crates/hrthood/out/hrthood check x.design"
+compare 'words' "$out" "$in_words"
+export HRTHOOD_WORDS=never
+run check x.design
+compare 'no words' "$out" 'proved: check x.design'
+unset HRTHOOD_WORDS
+run check x.design
+compare 'no words without a terminal' "$out" 'proved: check x.design'
+on_terminal=$(python3 -c 'import pty, sys; pty.spawn(sys.argv[1:])' env PATH="$room/kit:$room/path" ./clone/hrthood check x.design </dev/null)
+compare 'words on a terminal' "${on_terminal%%$'\r'*}" "$in_words"
 
 echo "$good of $count as wanted"
 [ "$good" -eq "$count" ]

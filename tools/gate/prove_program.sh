@@ -12,21 +12,6 @@ log=$top/out/proof.log
 lock=$top/out/proof.lock
 begun=$top/out/proof.begun
 
-# The libraries that are to be proved, one a line in the order of their proofs; nothing where the kit doesn't tell them.
-libraries_to_prove() {
-    (cd "$crate" && python3 - "$(readlink -f -- "$(command -v rt)")" "$top") <<'PYTHON' 2>/dev/null
-import functools, os, sys
-rt, top = sys.argv[1:]
-sys.path.insert(0, os.path.dirname(rt))
-import rtlib
-rtlib.Crate.stamp = functools.cache(rtlib.Crate.stamp)
-program, = (crate for crate in rtlib.crates_below(top) if crate.name == 'hrthood')
-for crate in program.below():
-    if not crate.is_built():
-        print(crate.name)
-PYTHON
-}
-
 # Tells of each library of this list when it is proved, until it is ended.
 show_progress() {
     count=0
@@ -68,7 +53,7 @@ prove() {
     : >"$begun" && : >"$log" && rm -f "$top/out/proof.group" && cd "$crate" || return 125
     echo "proving and building the program, from $(date)" >>"$log"
     # What is left of a library that is to be proved is of other sources, and `rt` removes it before its proof.
-    libraries=$(libraries_to_prove)
+    libraries=$("$top/tools/gate/libraries_to_prove.py" hrthood)
     for name in $libraries; do rm -f "$top/crates/$name/out/rlib/stamp"; done
     # shellcheck disable=SC2086  # one word for each library
     set -- $libraries

@@ -63,7 +63,7 @@ class Crate:
 
     def is_built(self):
         try:
-            return open(f'../{self.name}/out/rlib/stamp').read() == 'new\n'
+            return open(f'crates/{self.name}/out/rlib/stamp').read() == 'new\n'
         except OSError:
             return False
 

@@ -299,6 +299,14 @@ class Crates(unittest.TestCase):
         self.assertEqual(above.all_above(['low'], below), {'low', 'middle', 'high'})
         self.assertEqual(above.all_above(['high'], below), {'high'})
 
+    def test_seconds(self):
+        above = load('above', SOURCE)
+        with tempfile.TemporaryDirectory() as room:
+            path = os.path.join(room, 'crates.csv')
+            with open(path, 'w') as out:
+                out.write('crate,proof,tests,edits\nlow,3,0,40\nhigh,5,,\n')
+            self.assertEqual(above.read_seconds(path), {'low': 43, 'high': 5})
+
     def test_every_crate_is_told(self):
         status, out, _ = run([sys.executable, os.path.join(SOURCE, 'above.py'), 'seq_tree'])
         self.assertEqual(status, 0)

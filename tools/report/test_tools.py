@@ -6,6 +6,7 @@
 PROGRAM is the path of the program, and the proved program of this repository where it isn't set. Without one, and without bash, the tests that
 need it are skipped, which is told. No part of the gate.
 """
+import csv
 import importlib.util
 import os
 import re
@@ -313,6 +314,15 @@ class Crates(unittest.TestCase):
         self.assertRegex(out, r'\d+ seq_tree\n')
         status, _, err = run([sys.executable, os.path.join(SOURCE, 'above.py'), 'nothing'])
         self.assertEqual((status, err), (1, 'above.py: nothing is no crate of crates.txt\n'))
+
+    def test_decisions(self):
+        with open(os.path.join(TOP, 'docs', 'DECISIONS.md'), encoding='utf-8') as text:
+            entries = re.findall(r'^`([a-z-]+)`: ', text.read(), re.M)
+        self.assertEqual(len(entries), len(set(entries)))
+        with open(os.path.join(TOP, 'docs', 'decisions_map.csv'), encoding='utf-8', newline='') as text:
+            rows = list(csv.DictReader(text))
+        self.assertEqual({row['where'] for row in rows if row['state'] == 'entry'} - set(entries), set())
+        self.assertEqual([row for row in rows if row['state'].startswith(('docstring', 'page to')) and not row['text']], [])
 
     def test_doors(self):
         script = os.path.join(SOURCE, 'doors.py')

@@ -153,7 +153,7 @@ def main() -> int:
             text.write(picture(runs))
         return 0
     if old != new:
-        print('docs/GATE.md is out of date: run tools/gate_table.py --write')
+        print('docs/GATE.md is out of date: run tools/gate/gate_table.py --write')
     return int(old != new)
 
 

@@ -1,11 +1,12 @@
 #!/usr/bin/env python3
 """Count phrases that docs/STYLE.md replaces, and fail if a count has grown.
 
-    check_words.py           compare the counts with docs/words.csv; fail if one is greater
+    check_words.py           compare the counts with docs/words.csv; fail if one is greater, or if a phrase of NEVER is in a page
     check_words.py --write   write the counts into docs/words.csv
     check_words.py --list    print each line with such a phrase as FILE:LINE: text
 
-Pages are README.md and docs/*.md; comments are those of the .rt and .antt files below crates/, proofs apart.
+Pages are README.md, docs/*.md and the README.md of other folders; comments are those
+of the .rt and .antt files below crates/, except proofs. docs/STYLE.md quotes the phrases and is not counted.
 """
 from __future__ import annotations
 
@@ -29,12 +30,21 @@ PHRASES = {
     'worked out': r'\bwork(?:s|ed) out\b',
     'room': r'\brooms?\b',
 }
+NEVER = ('where there is one', 'want of memory', 'hands in, out, on', 'worked out')
+FOLDERS = ('docs', 'docs/assurance', 'bench', 'web', 'examples')
 COMMENT = re.compile(r'\s*(?:///?|//!|--)\s?(.*)')
+
+
+def pages() -> list[str]:
+    """Return the paths of all pages."""
+    return [os.path.join(TOP, 'README.md'), *(path for folder in FOLDERS for path in sorted(glob.glob(os.path.join(TOP, folder, '*.md'))))]
 
 
 def lines() -> Iterator[tuple[str, str, int, str]]:
     """Yield each line to look at: 'pages' or 'comments', its file, its number and its text."""
-    for path in [os.path.join(TOP, 'README.md'), *sorted(glob.glob(os.path.join(TOP, 'docs', '*.md')))]:
+    for path in pages():
+        if path.endswith('STYLE.md'):
+            continue
         with open(path, encoding='utf-8') as text:
             for number, line in enumerate(text, 1):
                 yield 'pages', path, number, line
@@ -58,6 +68,13 @@ def counts() -> dict[tuple[str, str], int]:
         for phrase, pattern in PHRASES.items():
             found[phrase, part] += len(re.findall(pattern, line))
     return found
+
+
+def never_right() -> list[str]:
+    """Return a message for each phrase of NEVER in a line of a page."""
+    return [f'{os.path.relpath(path, TOP)}:{number}: "{phrase}" is never right in a page: see docs/STYLE.md'
+            for part, path, number, line in lines() if part == 'pages'
+            for phrase in NEVER if re.search(PHRASES[phrase], line)]
 
 
 def list_all() -> None:
@@ -91,8 +108,11 @@ def main() -> int:
         return 0
     grown = [key for key, count in read_kept().items() if now.get(key, 0) > count]
     for phrase, part in grown:
-        print(f'"{phrase}" has become more frequent in {part}: see docs/STYLE.md')
-    return int(bool(grown))
+        print(f'"{phrase}" has become more frequent in {part}: {now[phrase, part]}; see docs/STYLE.md and check_words.py --list')
+    wrong = never_right()
+    for line in wrong:
+        print(line)
+    return int(bool(grown or wrong))
 
 
 if __name__ == '__main__':

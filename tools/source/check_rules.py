@@ -70,7 +70,7 @@ def row_faults(number, line, seen):
 def crate_faults():
     """Crates without a row in the table of docs/ARCHITECTURE.md, and rows without a crate."""
     crates = {line.partition(':')[0].split()[0] for line in read(TOP, 'crates.txt').split('\n') if re.match(r'\w', line)}
-    table = read(TOP, 'docs', 'ARCHITECTURE.md').partition('| Crate | Has | Its door |')[2].partition('\n\n')[0]
+    table = read(TOP, 'docs', 'ARCHITECTURE.md').partition('| Crate | Has | Public interface |')[2].partition('\n\n')[0]
     rows = set(re.findall(r'^\| (\w+) \|', table, re.M))
     for crate in sorted(crates - rows):
         yield f'docs/ARCHITECTURE.md: {crate} has no row'

@@ -64,7 +64,7 @@ def door(text):
 
 
 def table():
-    rows = ['| Crate | Has | Its door |', '|---|---|---|']
+    rows = ['| Crate | Has | Public interface |', '|---|---|---|']
     for crate in crates():
         text = root_of(crate)
         rows.append(f'| {crate} | {first_sentence(crate, text)} | {door(text)} |')
@@ -73,7 +73,7 @@ def table():
 
 def in_page(text):
     """Where the table stands in the page."""
-    found = re.search(r'^\| Crate \| Has \| Its door \|\n(?:\|.*\n)+', text, re.M)
+    found = re.search(r'^\| Crate \| Has \| Public interface \|\n(?:\|.*\n)+', text, re.M)
     if not found:
         sys.exit('crate_table.py: docs/ARCHITECTURE.md has no table of the crates')
     return found.span()

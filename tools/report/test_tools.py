@@ -354,6 +354,9 @@ class Crates(unittest.TestCase):
         self.assertFalse(rules.is_there('design_rules.Clash'))
         self.assertFalse(rules.is_there('ods_names::first_clas'))
         self.assertFalse(rules.is_there('ods_names/src/clash.rt'))
+        self.assertTrue(rules.is_there('docs/RULES.md'))
+        self.assertFalse(rules.is_there('docs/RULE.md'))
+        self.assertIsNone(rules.is_there('out/page/lafomizana.html'))
         self.assertEqual(list(rules.row_faults(1, '| V01 | names | `nothing.rt` |', set())), ['RULES.md:1: there is no test nothing.rt'])
         self.assertEqual(list(rules.row_faults(1, '| V01 | names | `arrivals.rt` |', set())), ['RULES.md:1: arrivals.rt has no row with V01'])
 

@@ -2,7 +2,7 @@
 """Looks whether what the pages say of rules and of places in the crates is there.
 
 It says where a crate has no row in docs/ARCHITECTURE.md; where a code of the definitions of messages (hrthood_top/specs/Messages and Searches) has no row in
-docs/RULES.md, or is not told of in docs/REFUSALS.md; where a page of PAGES names a definition, a call or a file of a crate that isn't there; and
+docs/RULES.md, or is not told of in docs/REFUSALS.md; where a page of PAGES names a definition, a call or a file that isn't there; and
 where a test of a row of RULES.md doesn't have the row's code. Exit status 1 tells that it said something.
 """
 import os
@@ -12,7 +12,8 @@ import sys
 TOP = os.path.dirname(os.path.dirname(os.path.dirname(os.path.abspath(__file__))))
 CRATES = os.path.join(TOP, 'crates')
 TESTS = os.path.join(CRATES, 'hrthood', 'src', 'tests')
-PAGES = ('README.md', 'docs/RULES.md', 'docs/CHANGING.md', 'docs/ARCHITECTURE.md', 'docs/GUARANTEE.md', 'docs/TESTED.md')
+PAGES = ('README.md', 'docs/RULES.md', 'docs/CHANGING.md', 'docs/ARCHITECTURE.md', 'docs/GUARANTEE.md', 'docs/TESTED.md', 'docs/DECISIONS.md',
+         'docs/GATE.md', 'docs/PAGE.md', 'docs/assurance/README.md', 'bench/README.md', 'web/README.md')
 CODE = r'[A-Z]\d{1,2}'
 
 
@@ -48,7 +49,9 @@ def is_there(span):
         return name is None or re.search(rf'^ *(?:abbrev )?(?:pub )?(?:data |record )?{name}\b', read(path), re.M) is not None
     if call:
         return any(re.search(rf'\bfn {call[2]}\b', text) for text in sources(call[1]))
-    if file:
+    if re.fullmatch(r'(?:docs|tools|web|bench|man|completion)/[\w./-]+', span):
+        return os.path.exists(os.path.join(TOP, span))
+    if file and file[1] != 'out':
         return os.path.exists(os.path.join(CRATES, file[1], file[2])) or os.path.exists(os.path.join(TOP, span))
     return None
 

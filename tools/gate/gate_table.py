@@ -3,7 +3,10 @@
 
     gate_table.py           fail if docs/GATE.md does not contain the current tables
     gate_table.py --write   write the tables into docs/GATE.md and draw docs/pictures/gate.svg
-    gate_table.py --add code=52639 minutes=48 ...   append a row to docs/gate/runs.csv
+    gate_table.py --add passed=115 kind=whole ...   append a row to docs/gate/runs.csv, and write
+
+A row gets the date and time of now and the lines of code, definitions and proofs that are in crates/, unless they are given. Its kind is
+`whole` (everything from nothing, in one run), `incremental`, `in pieces` or `not run`.
 
 `docs/gate/runs.csv` has one row per run of the gate, `docs/gate/crates.csv` one row per crate: the processor
 seconds of its proof, its tests and its must-fail edits in the last whole run.
@@ -13,6 +16,7 @@ from __future__ import annotations
 import argparse
 import csv
 import datetime
+import glob
 import os
 import sys
 from typing import Iterable
@@ -120,12 +124,23 @@ def with_tables(page: str, tables: dict[str, str]) -> str:
     return page
 
 
+def lines_below(folder: str) -> int:
+    """Return the lines of the .rt and .antt files below crates/*/FOLDER."""
+    count = 0
+    for path in glob.glob(os.path.join(TOP, 'crates', '*', folder, '**', '*'), recursive=True):
+        if path.endswith(('.rt', '.antt')):
+            with open(path, 'rb') as text:
+                count += text.read().count(b'\n')
+    return count
+
+
 def add(words: list[str]) -> None:
-    """Append a run to the CSV file; columns that are not given stay empty, and the date and time default to now."""
+    """Append a run to the CSV file; columns that are not given stay empty, except the date, the time and the lines."""
     with open(RUNS, encoding='utf-8', newline='') as text:
         columns = next(csv.reader(text))
     now = datetime.datetime.now()
-    row = {'date': f'{now:%Y-%m-%d}', 'time': f'{now:%H:%M}', **dict(word.split('=', 1) for word in words)}
+    lines = {name: str(lines_below(folder)) for name, folder in (('code', 'src'), ('definitions', 'specs'), ('proofs', 'proofs'))}
+    row = {'date': f'{now:%Y-%m-%d}', 'time': f'{now:%H:%M}', **lines, **dict(word.split('=', 1) for word in words)}
     unknown = sorted(set(row) - set(columns))
     if unknown:
         raise SystemExit(f'gate_table: no such column: {", ".join(unknown)}')

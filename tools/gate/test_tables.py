@@ -71,6 +71,8 @@ class Tables(unittest.TestCase):
         self.assertIn('<svg', self.read('docs/pictures/gate.svg'))
         self.assertEqual(self.run_script(script, '--add', 'code=12', 'proofs=30', 'kind=whole', 'load=idle', 'change=Third')[0], 0)
         self.assertIn('Third', self.read('docs/GATE.md'))
+        self.assertEqual(self.run_script(script, '--add', 'kind=incremental')[0], 0)
+        self.assertRegex(self.read('docs/gate/runs.csv').splitlines()[-1], r'^[\d-]+,[\d:]+,2,0,1,,,,incremental,')
         self.assertNotEqual(self.run_script(script, '--add', 'colour=red')[0], 0)
 
     def test_bench(self) -> None:

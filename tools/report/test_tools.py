@@ -250,45 +250,86 @@ class Pictures(unittest.TestCase):
                 self.assertEqual((status, out.count('{'), out[-2:]), (0, out.count('}'), '}\n'), name)
 
 
-@unittest.skipUnless(shutil.which('awk'), 'there is no awk')
+@unittest.skipUnless(shutil.which('node'), 'there is no node')
 class Places(unittest.TestCase):
     """told_at.sh, over a program that tells one line."""
 
-    def tell(self, line, words):
+    DESIGN = ('DESIGN d VERSION 2 IS TICK = 1 ms;\n' + PAIR.split('\n', 1)[1]).replace('work (4)', 'work (4); c.op').replace('OBJECT b', '  Object  b')
+
+    def tell(self, line, words, **environment):
         with tempfile.TemporaryDirectory() as room:
             program = os.path.join(room, 'program')
             with open(program, 'w') as text:
                 text.write(f"#!/bin/sh\necho made\necho '{line}' >&2\nexit 7\n")
             os.chmod(program, 0o755)
             with open(os.path.join(room, 'd.design'), 'w') as text:
-                text.write('DESIGN d IS\n  Object  radio_link IS CYCLIC\n  OBJECT radio IS SPORADIC\n')
+                text.write(self.DESIGN)
+            with open(os.path.join(room, 'r.arrivals'), 'w') as text:
+                text.write('UNTIL 1;\n\nAT 1 b;\n  AT 0 b;\n')
             words = [os.path.join(room, word) if '.' in word else word for word in words]
-            status, out, err = run([os.path.join(TOOLS, 'told_at.sh'), *words], PROGRAM=program)
+            status, out, err = run([os.path.join(TOOLS, 'told_at.sh'), *words], PROGRAM=program, **environment)
             self.assertEqual((status, out), (7, 'made\n'))
-            return err.replace(room + '/', '').rstrip('\n')
+            return err.replace(room + '/', '').rstrip('\n').split('\n')
 
     def test_places(self):
         for line, wanted in (
-            ('refused S1 design line 3 column 14', 'd.design:3:14: error: refused S1'),
-            ('refused L2 arrivals line 2 column 1', 'r.arrivals:2:1: error: refused L2'),
-            ('refused Q2 line 4 radio', 'r.arrivals:4:1: error: refused Q2 radio'),
-            ('refused Q1 line 4', 'r.arrivals:4:1: error: refused Q1'),
-            ('refused Q4 value 2 limit 1', 'r.arrivals: error: refused Q4 value 2 limit 1'),
-            ('refused S3 arrivals', 'r.arrivals: error: refused S3 arrivals'),
-            ('refused V05 radio', 'd.design:3:1: error: refused V05 radio'),
-            ('refused V09 radio_link.op', 'd.design:2:1: error: refused V09 radio_link.op'),
-            ('refused V15 cost radio thread', 'd.design:3:1: error: refused V15 cost radio thread'),
-            ('refused V15 threads 31', 'd.design: error: refused V15 threads 31'),
-            ('refused V11 costs', 'd.design: error: refused V11 costs'),
-            ('refused V01 radio', 'd.design: error: refused V01 radio'),
-            ('refused U1 radio value 9 limit 8 round 2', 'd.design:3:1: error: refused U1 radio value 9 limit 8 round 2'),
-            ('refused S3 text', 'd.design: error: refused S3 text'),
-            ('fault reading d.design', 'fault reading d.design'),
+            ('refused S1 design line 3 column 14', 'd.design:3:14: error: S1: '),
+            ('refused L2 arrivals line 2 column 1', 'r.arrivals:2:1: error: L2: '),
+            ('refused Q2 line 4 radio', 'r.arrivals:4:3: error: Q2: '),
+            ('refused Q1 line 4', 'r.arrivals:4:3: error: Q1: '),
+            ('refused Q4 value 2 limit 1', 'r.arrivals:1:7: error: Q4: '),
+            ('refused S3 arrivals', 'r.arrivals: error: S3: '),
+            ('refused V13 b thread B1', 'd.design:11:18: error: V13: The call c.op '),
+            ('refused V14 b cost 6 budget 5', 'd.design:10:40: error: V14: '),
+            ('refused V15 cost b thread', 'd.design:11:1: error: V15: '),
+            ('refused V15 threads 31', 'd.design:1:1: error: V15: '),
+            ('refused V11 costs', 'd.design:2:1: error: V11: '),
+            ('refused V17 tick', 'd.design:1:23: error: V17: '),
+            ('refused V01 b', 'd.design:9:11: error: V01: '),
+            ('refused U1 b value 9 limit 8 round 2', 'd.design:10:25: error: U1: '),
+            ('refused U2 b value 9 limit 8 round 2', 'd.design:10:12: error: U2: '),
+            ('refused S3 text', 'd.design: error: S3: '),
         ):
-            self.assertEqual(self.tell(line, ['verify', 'd.design', 'r.arrivals']), wanted)
+            told = self.tell(line, ['verify', 'd.design', 'r.arrivals'])[0]
+            self.assertEqual((told[:len(wanted)], told[-len(line) - 3:]), (wanted, f' [{line}]'))
 
     def test_ada(self):
-        self.assertEqual(self.tell('refused S1 ada line 9 column 2', ['replay', 'a.ada', 'r.arrivals']), 'a.ada:9:2: error: refused S1')
+        told = self.tell('refused S1 ada line 9 column 2', ['replay', 'a.ada', 'r.arrivals'])
+        self.assertEqual(told[0].split(': error: ')[0], 'a.ada')
+
+    def test_other_lines(self):
+        """A line that is no refusal, or one of a code that is not known, stays as it is."""
+        for line in ('fault reading d.design', 'no memory', 'refused V99 b'):
+            self.assertEqual(self.tell(line, ['check', 'd.design']), [line])
+
+    def test_no_file(self):
+        """Of a file that isn't there the words are told, and no place."""
+        told = self.tell('refused V12 b', ['check', 'absent.design'])
+        self.assertEqual(told[0], 'absent.design: error: V12: b has no children and is ACTIVE. [refused V12 b]')
+
+    def test_words(self):
+        """The words stand under what the program tells, and alone where that is in a file."""
+        at = os.path.join(TOOLS, 'told_at.mjs')
+        with tempfile.TemporaryDirectory() as room:
+            told = os.path.join(room, 'told')
+            with open(told, 'w') as text:
+                text.write('hrthood: not proved\nrefused V12 b\n')
+            words = 'V12: b has no children and is ACTIVE.\n  Give it children, or another kind.\n'
+            self.assertEqual(run(['node', at, '--words', told, 'check', '/absent']), (0, '', words))
+            self.assertEqual(run(['node', at, '--run', 'cat', told])[:2], (0, 'hrthood: not proved\nrefused V12 b\n'))
+            self.assertEqual(run(['node', at, '--run', 'sh', '-c', f'cat {told} >&2; exit 3']), (3, '', f'hrthood: not proved\nrefused V12 b\n{words}'))
+
+
+class Sentences(unittest.TestCase):
+    """web/refusals.json, and what is made of it."""
+
+    def test_tables(self):
+        self.assertEqual(run([sys.executable, os.path.join(TOOLS, 'refusals_table.py'), '--check'])[0], 0)
+
+    @unittest.skipUnless(shutil.which('node'), 'there is no node')
+    def test_mistakes(self):
+        status, out, err = run(['node', os.path.join(TOOLS, 'test_mistakes.mjs')])
+        self.assertEqual((status, err), (0, ''), out)
 
 
 class Crates(unittest.TestCase):

@@ -1,10 +1,11 @@
 #!/usr/bin/env python3
 """Writes the page, one file that works from a folder and without a network.
 
-    build_page.py MODULE.wasm LAST_LINE OUT.html
+    build_page.py MODULE.wasm LAST_LINE MADE OUT.html
 
-MODULE.wasm is what retarget.py makes of the crate `page`, and LAST_LINE the last line of its proof, which the page shows. Everything else is
-taken from web/ and examples/ of this repository. web/tools/make_page.sh does all steps.
+MODULE.wasm is what retarget.py makes of the crate `page`, LAST_LINE the last line of its proof, and MADE a line `version VERSION sources SUM kit KIT`
+of what the page is made of. The page shows both lines, and has the second one in its head, for scripts. Everything else is taken from web/ and
+examples/ of this repository. web/tools/make_page.sh does all steps.
 """
 import base64
 import html
@@ -14,7 +15,9 @@ import re
 import sys
 
 TOP = os.path.dirname(os.path.dirname(os.path.dirname(os.path.abspath(__file__))))
-SCRIPTS = ('refusals', 'texts', 'runs', 'traces', 'trace_places', 'chart', 'bounds', 'timeline', 'verbs', 'page')
+# Modules, each behind those that it imports, with what the scripts of the page use of them; then the scripts, which share their names.
+MODULES = (('design_text', ('tokensOf',)), ('places', ('markOf',)), ('refusals', ('Refusals',)))
+SCRIPTS = ('texts', 'runs', 'traces', 'trace_places', 'chart', 'bounds', 'timeline', 'verbs', 'page')
 # What the page calls an example, and its texts: a design, arrivals and for some a trace.
 EXAMPLES = (
     ('Mine pump', 'mine_pump.design', 'one_water_alarm.arrivals', 'one_water_alarm.trace'),
@@ -47,9 +50,22 @@ def examples():
     return {name: {kind: text_of('examples', file) for kind, file in zip(kinds, files)} for name, *files in EXAMPLES}
 
 
+def module(name, used):
+    """A module as a part of the one script: a function that is called at once, whose value is what it exports."""
+    text = text_of('web', name + '.js')
+    text = re.sub(r'^import (\{[^}]*\}) from "\./(\w+)\.js";$', r'const \1 = module_\2;', text, flags=re.M)
+    exports = re.findall(r'^export (?:const|function|class) (\w+)', text, flags=re.M)
+    text = re.sub(r'^export (?=const|function|class)', '', text, flags=re.M)
+    if re.search(r'^(import|export)\b', text, flags=re.M):
+        sys.exit(f'build_page: {name}.js imports or exports in a form that is not known')
+    return (f'const module_{name} = (() => {{\n{text}\nreturn {{ {", ".join(exports)} }};\n}})();\n'
+            f'const {{ {", ".join(used)} }} = module_{name};')
+
+
 def scripts():
-    """The scripts as one. None of them may end the element in which they stand."""
-    whole = '\n'.join(text_of('web', name + '.js') for name in SCRIPTS)
+    """The modules and scripts as one. None of them may end the element in which they stand."""
+    parts = [module(name, used) for name, used in MODULES] + [text_of('web', name + '.js') for name in SCRIPTS]
+    whole = '\n'.join(parts)
     if re.search('</script|<!--', whole, re.IGNORECASE):
         sys.exit('build_page: a script would end its element')
     return whole
@@ -66,9 +82,12 @@ def filled(page, parts):
 
 
 def main():
-    if len(sys.argv) != 4:
+    if len(sys.argv) != 5:
         sys.exit(__doc__)
-    module, last_line, out = sys.argv[1:]
+    module, last_line, made, out = sys.argv[1:]
+    told = re.fullmatch(r'version (\S+) sources ([0-9a-f]{64}) kit (\S.*)', made)
+    if told is None:
+        sys.exit(f'build_page: not a line of version, sources and kit: {made}')
     with open(module, 'rb') as binary:
         encoded = base64.b64encode(binary.read()).decode()
     chart = text_of('web', 'chart.css')
@@ -76,8 +95,13 @@ def main():
         'STYLE': text_of('web', 'page.css') + chart,
         'HELP': text_of('web', 'help.html'),
         'VERDICT': html.escape(last_line),
+        'MADE': html.escape(made),
+        'VERSION': html.escape(told[1]),
+        'SOURCES': html.escape(told[2]),
+        'KIT': html.escape(told[3]),
         'EXAMPLES': as_script(examples()),
         'CHART': as_script(chart),
+        'REFUSALS': as_script(json.loads(text_of('web', 'refusals.json'))),
         'WORKER': as_script(text_of('web', 'library_host.js') + text_of('web', 'library_worker.js')),
         'MODULE': encoded,
         'SCRIPT': scripts(),

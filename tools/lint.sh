@@ -40,8 +40,8 @@ done
 
 lint shellcheck -x -P SCRIPTDIR "${shell[@]}"
 lint flake8 --max-line-length 150 "${python[@]}"
-lint mypy --strict --no-error-summary "${strict[@]}"
-lint mypy --ignore-missing-imports --no-error-summary "${loose[@]}"
+lint mypy --cache-dir out/mypy --strict --no-error-summary "${strict[@]}"
+lint mypy --cache-dir out/mypy --ignore-missing-imports --no-error-summary "${loose[@]}"
 if command -v node >/dev/null; then
     while read -r file; do
         lint node --check "$file"

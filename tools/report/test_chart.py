@@ -17,7 +17,6 @@ sys.dont_write_bytecode = True
 TOOLS = os.path.dirname(os.path.realpath(__file__))
 EXAMPLES = os.path.join(TOOLS, '..', '..', 'examples')
 sys.path.insert(0, TOOLS)
-import chart                    # noqa: E402
 import traces                   # noqa: E402
 
 

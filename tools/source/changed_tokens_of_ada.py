@@ -108,7 +108,7 @@ class AdaReader(Reader):
                     self.words(";")
                     self.parameter()
             self.words(")")
-        head = " ".join(self.tokens[start : self.place])
+        head = " ".join(self.tokens[start:self.place])
         self.words(";")
         return head, name, first
 
@@ -203,7 +203,7 @@ def main():
         print(name, len(tokens), "tokens", first_fault(tokens))
         for change, made in changes.items():
             for place, token in enumerate(tokens):
-                changed = tokens[:place] + made(token) + tokens[place + 1 :]
+                changed = tokens[:place] + made(token) + tokens[place + 1:]
                 fault = first_fault(changed)
                 if changed == tokens:
                     continue

@@ -295,7 +295,7 @@ def main():
     print(len(tokens), "tokens")
     for change, made in changes.items():
         for place, token in enumerate(tokens):
-            changed = tokens[:place] + made(token) + tokens[place + 1 :]
+            changed = tokens[:place] + made(token) + tokens[place + 1:]
             fault = first_fault(changed)
             if changed == tokens:
                 continue

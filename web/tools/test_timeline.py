@@ -148,9 +148,10 @@ def random_design(seed):
         called = [name for name in stores if chance.random() < 0.6]
         target = ['s%d' % i] if chance.random() < 0.4 else []
         needs = ['%s.set;' % name for name in called] + ['%s.go;' % name for name in target]
+        requires = 'REQUIRES ' + ' '.join(needs) if needs else ''
+        offset = chance.randint(0, 30)
         out.append('OBJECT t%d IS CYCLIC ATTRIBUTES PERIOD = %d; OFFSET = %d; DEADLINE = %d; THREAD_BUDGET = 200; %s DATA n : word := 0; '
-                   'THREAD %s END THREAD; END t%d;' % (i, period, chance.randint(0, 30), period, 'REQUIRES ' + ' '.join(needs) if needs else '',
-                                                      statements(chance, called, target), i))
+                   'THREAD %s END THREAD; END t%d;' % (i, period, offset, period, requires, statements(chance, called, target), i))
         for name in target:
             out.append('OBJECT %s IS SPORADIC ATTRIBUTES SEPARATION = %d; DEADLINE = %d; THREAD_BUDGET = 200; PROVIDES go (v : in word) ASER; '
                        'THREAD put (v); work (%d); END THREAD; END %s;' % (name, period, period, chance.randint(1, 9), name))

@@ -1,5 +1,5 @@
 #!/usr/bin/env python3
-"""Prints the libraries below a crate that `rt` proves before it, as they have no stamp of what is there now: one a line, in the order of their proofs.
+"""Prints the libraries below a crate that `rt` proves before it, as they have no stamp of what is there now, in the order of their proofs.
 
     libraries_to_prove.py CRATE
 """

@@ -127,7 +127,8 @@ same 'a pipe without an end' 'yes | "$run" check /dev/stdin' 1 'refused S3 desig
 same 'a pipe that stays open behind a byte too many' \
     'mkfifo fifo; { cat spaces_1m_and_one; sleep 4; } >fifo & timeout 3 "$run" check fifo; s=$?; rm fifo; exit $s' 1
 same 'a reader that left' '{ "$run" verify mine_pump.design long.arrivals; echo $? >left; } | head -c 1; cat left' 0 'fault writing'
-same 'a reader that leaves soon' '{ "$run" verify mine_pump.design long.arrivals; echo $? >left; } | head -c 3000000 | sha256sum; cat left' 0 'fault writing'
+same 'a reader that leaves soon' \
+    '{ "$run" verify mine_pump.design long.arrivals; echo $? >left; } | head -c 3000000 | sha256sum; cat left' 0 'fault writing'
 same 'a slow reader' '"$run" verify mine_pump.design long.arrivals | { sleep 1; sha256sum; }' 0
 same 'a full device' '"$run" check design >/dev/full' 4 'fault writing'
 same 'a full device, a long answer' '"$run" verify mine_pump.design long.arrivals >/dev/full' 4 'fault writing'
@@ -135,6 +136,24 @@ same 'a full device, nothing to write' '"$run" check empty >/dev/full' 1
 same 'a full standard error' '"$run" check absent 2>/dev/full' 3
 same 'a closed standard error' '"$run" check absent 2>&-' 3
 same 'a file that may have 1,024 bytes' "trap '' XFSZ; ulimit -f 1; \"\$run\" generate design >part; s=\$?; sha256sum part; exit \$s" 4
+
+# Runs the script in a folder of its own, where there is no answer, and wants this text in its line.
+# usage: none NAME TEXT
+none() {
+    local status=0 wrong=
+    "$engine" alone/hrthood.mjs check design >none.out 2>none.err || status=$?
+    [ "$status" -eq 125 ] || wrong="status $status and not 125"
+    [ ! -s none.out ] || wrong="$wrong standard output has something"
+    grep -qF "hrthood: no answer by node: $2" none.err || wrong="$wrong standard error has $(head -c 200 none.err)"
+    report "$1" "$wrong"
+}
+
+mkdir alone
+cp "$top/tools/hrthood.mjs" alone
+none 'no page' 'there is no lafomizana.html'
+echo '<title>Lafomizana</title>' >alone/lafomizana.html
+none 'a page without a module' 'lafomizana.html has no'
+report 'what the page is made of' "$("$engine" "$top/tools/hrthood.mjs" --made | grep -vE '^version [^ ]+ sources [0-9a-f]{64} kit [^ ]+')"
 
 # ./hrthood in a clone without a binary, with this node first on the path.
 mkdir bare bare/path

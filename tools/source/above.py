@@ -6,6 +6,9 @@
 Prints the crates that stand on these, directly or through others, each with the processor seconds that docs/GATE.md has for its proof, its tests and
 its edits, and their sum. An edit of a body alone proves the crates above again too. A crate without a row there is told as such.
 """
+
+from __future__ import annotations
+
 import os
 import re
 import sys
@@ -13,7 +16,7 @@ import sys
 TOP = os.path.dirname(os.path.dirname(os.path.dirname(os.path.abspath(__file__))))
 
 
-def read_below(path):
+def read_below(path: str) -> dict[str, list[str]]:
     """For each crate of crates.txt the crates on which it stands directly."""
     below = {}
     with open(path) as text:
@@ -24,7 +27,7 @@ def read_below(path):
     return below
 
 
-def read_seconds(path):
+def read_seconds(path: str) -> dict[str, int]:
     """For each crate with a row in the table of docs/GATE.md its processor seconds."""
     seconds = {}
     with open(path) as text:
@@ -35,7 +38,7 @@ def read_seconds(path):
     return seconds
 
 
-def all_above(changed, below):
+def all_above(changed: list[str], below: dict[str, list[str]]) -> set[str]:
     """These crates and all that stand on them."""
     again = set(changed)
     while True:
@@ -45,7 +48,7 @@ def all_above(changed, below):
         again |= more
 
 
-def main():
+def main() -> None:
     below = read_below(os.path.join(TOP, 'crates.txt'))
     seconds = read_seconds(os.path.join(TOP, 'docs', 'GATE.md'))
     changed = sys.argv[1:]

@@ -1,13 +1,17 @@
 #!/usr/bin/env python3
 """Looks whether what the pages say of rules and of places in the crates is there.
 
-It says where a crate has no row in docs/ARCHITECTURE.md; where a code of the definitions of messages (hrthood_top/specs/Messages and Searches) has no row in
-docs/RULES.md, or is not told of in docs/REFUSALS.md; where a page of PAGES names a definition, a call or a file of a crate that isn't there; and
-where a test of a row of RULES.md doesn't have the row's code. Exit status 1 tells that it said something.
+It says where a crate has no row in docs/ARCHITECTURE.md; where a code of the definitions of messages (hrthood_top/specs/Messages and Searches) has
+no row in docs/RULES.md, or is not told of in docs/REFUSALS.md; where a page of PAGES names a definition, a call or a file of a crate that isn't
+there; and where a test of a row of RULES.md doesn't have the row's code. Exit status 1 tells that it said something.
 """
+
+from __future__ import annotations
+
 import os
 import re
 import sys
+from typing import Iterator
 
 TOP = os.path.dirname(os.path.dirname(os.path.dirname(os.path.abspath(__file__))))
 CRATES = os.path.join(TOP, 'crates')
@@ -16,18 +20,18 @@ PAGES = ('README.md', 'docs/RULES.md', 'docs/CHANGING.md', 'docs/ARCHITECTURE.md
 CODE = r'[A-Z]\d{1,2}'
 
 
-def read(*path):
+def read(*path: str) -> str:
     with open(os.path.join(*path)) as text:
         return text.read()
 
 
-def codes_told():
+def codes_told() -> set[str]:
     """The codes that messages begin with, or have as the code of a limit, a rule or a body."""
     texts = [read(CRATES, 'hrthood_top', 'specs', module) for module in ('Messages.antt', 'Searches.antt', 'Acceptances.antt')]
     return set(re.findall(rf'codes "(?:refused )? ?({CODE})\b', '\n'.join(texts))) | {'C1'}
 
 
-def sources(crate):
+def sources(crate: str) -> Iterator[str]:
     """The texts of the code of a crate."""
     for folder, _, files in os.walk(os.path.join(CRATES, crate, 'src')):
         for file in files:
@@ -35,7 +39,7 @@ def sources(crate):
                 yield read(folder, file)
 
 
-def is_there(span):
+def is_there(span: str) -> bool | None:
     """Whether what a span of the page names is there; None where it names nothing of the crates."""
     definition = re.fullmatch(r'([a-z0-9_]+)\.([A-Z]\w*)(?:\.(\w+))?', span)
     call = re.fullmatch(r'([a-z0-9_]+)::(?:[A-Z]\w*::)?([a-z]\w*)', span)
@@ -53,7 +57,7 @@ def is_there(span):
     return None
 
 
-def row_faults(number, line, seen):
+def row_faults(number: int, line: str, seen: set[str]) -> Iterator[str]:
     """What is wrong with a row, and its code into `seen`."""
     code = re.match(rf'\| ({CODE})\b', line)
     if not code:
@@ -67,7 +71,7 @@ def row_faults(number, line, seen):
             yield f'RULES.md:{number}: {test} has no row with {code[1]}'
 
 
-def crate_faults():
+def crate_faults() -> Iterator[str]:
     """Crates without a row in the table of docs/ARCHITECTURE.md, and rows without a crate."""
     crates = {line.partition(':')[0].split()[0] for line in read(TOP, 'crates.txt').split('\n') if re.match(r'\w', line)}
     table = read(TOP, 'docs', 'ARCHITECTURE.md').partition('| Crate | Has | Its door |')[2].partition('\n\n')[0]
@@ -78,10 +82,10 @@ def crate_faults():
         yield f'docs/ARCHITECTURE.md: there is no crate {crate}'
 
 
-def faults():
+def faults() -> Iterator[str]:
     yield from crate_faults()
     told = codes_told()
-    seen = set()
+    seen: set[str] = set()
     for page in PAGES:
         for number, line in enumerate(read(TOP, page).split('\n'), 1):
             for span in re.findall(r'`([^`]+)`', line):
@@ -101,7 +105,7 @@ def faults():
         yield f'REFUSALS.md: nothing of {code}'
 
 
-def main():
+def main() -> None:
     found = list(faults())
     for fault in found:
         print(fault)

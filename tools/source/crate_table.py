@@ -5,24 +5,28 @@
     crate_table.py --write  puts it into that page
     crate_table.py --print  prints it
 
-A row has the crate, the first sentence of its head, and its door: the functions and types that its root file makes public. Crates come in the order of
-crates.txt.
+A row has the crate, the first sentence of its head, and its door: the functions and types that its root file makes public. Crates come in the
+order of crates.txt.
 """
+
+from __future__ import annotations
+
 import os
 import re
 import sys
+from typing import Iterator
 
 top = os.path.dirname(os.path.dirname(os.path.dirname(os.path.realpath(__file__))))
 page = f'{top}/docs/ARCHITECTURE.md'
 MOST = 8
 
 
-def read(path):
+def read(path: str) -> str:
     with open(path, encoding='utf-8') as text:
         return text.read()
 
 
-def crates():
+def crates() -> Iterator[str]:
     """The names in crates.txt, in its order."""
     for line in read(f'{top}/crates.txt').split('\n'):
         line = line.split('#')[0]
@@ -30,7 +34,7 @@ def crates():
             yield line.split(':')[0].split()[0]
 
 
-def root_of(crate):
+def root_of(crate: str) -> str:
     for name in ('lib.rt', 'main.rt'):
         path = f'{top}/crates/{crate}/src/{name}'
         if os.path.isfile(path):
@@ -38,7 +42,7 @@ def root_of(crate):
     sys.exit(f'crate_table.py: crate {crate} has no root file')
 
 
-def first_sentence(crate, text):
+def first_sentence(crate: str, text: str) -> str:
     head = []
     for line in text.split('\n'):
         if not line.startswith('//!') or line == '//!':
@@ -50,7 +54,7 @@ def first_sentence(crate, text):
     return found.group(1).replace('|', r'\|')
 
 
-def door(text):
+def door(text: str) -> str:
     names = re.findall(r'^pub (?:unsafe |extern "C" )?fn (\w+)', text, re.M)
     for group in re.findall(r'^pub use [\w:]+::(\{[^}]*\}|\w+);', text, re.M):
         names += [name.strip() for name in group.strip('{}').split(',') if name.strip()]
@@ -63,7 +67,7 @@ def door(text):
     return ', '.join(told[:MOST]) + (f' and {more} more' if more > 0 else '')
 
 
-def table():
+def table() -> str:
     rows = ['| Crate | Has | Its door |', '|---|---|---|']
     for crate in crates():
         text = root_of(crate)
@@ -71,7 +75,7 @@ def table():
     return '\n'.join(rows) + '\n'
 
 
-def in_page(text):
+def in_page(text: str) -> tuple[int, int]:
     """Where the table stands in the page."""
     found = re.search(r'^\| Crate \| Has \| Its door \|\n(?:\|.*\n)+', text, re.M)
     if not found:
@@ -79,7 +83,7 @@ def in_page(text):
     return found.span()
 
 
-def main(words):
+def main(words: list[str]) -> None:
     if words == ['--print']:
         print(table(), end='')
         return
@@ -90,7 +94,8 @@ def main(words):
             it.write(text[:begin] + table() + text[end:])
     elif not words:
         if text[begin:end] != table():
-            sys.exit('crate_table.py: the table of the crates in docs/ARCHITECTURE.md is not that of their root files; tools/source/crate_table.py --write mends it')
+            sys.exit('crate_table.py: the table of the crates in docs/ARCHITECTURE.md is not that of their root files; '
+                     'tools/source/crate_table.py --write mends it')
         print(f'crate_table.py: {table().count(chr(10)) - 2} crates, all as in docs/ARCHITECTURE.md')
     else:
         sys.exit(__doc__)

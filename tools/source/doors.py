@@ -9,6 +9,9 @@ of crates that cite it. A module that is not listed can be changed without a loo
 module of proofs/ that doesn't stand in proofs/Shared/, and each module there that its crate's head in lib.rt doesn't name; the status is 1 where
 there is one. It reads texts alone, and proves nothing.
 """
+
+from __future__ import annotations
+
 import collections
 import os
 import re
@@ -20,7 +23,7 @@ CITED = re.compile(r'Rattle\.(\w+)\.(specs|proofs)\.((?:Shared\.)?\w+)|\b(\w+)::
 SHARED = 'Shared.'
 
 
-def citations(names):
+def citations(names: list[str]) -> dict[tuple[str, str, str], set[str]]:
     """For each module of specs/ or proofs/ the other crates that name it."""
     cited = collections.defaultdict(set)
     for crate in names:
@@ -35,14 +38,14 @@ def citations(names):
     return cited
 
 
-def modules_of(crate, part):
+def modules_of(crate: str, part: str) -> list[str]:
     """The modules of a crate's specs/, or of another folder of it."""
     folder = os.path.join(CRATES, crate, part)
     files = os.listdir(folder) if os.path.isdir(folder) else []
     return sorted(file[:-5] for file in files if file.endswith('.antt') and file != 'Lib.antt')
 
 
-def open_doors(names):
+def open_doors(names: list[str]) -> list[str]:
     """A line for each citation past proofs/Shared/, and for each module there that the head of lib.rt doesn't name."""
     lines = []
     for (of, kind, module), by in sorted(citations(names).items()):
@@ -58,7 +61,7 @@ def open_doors(names):
     return lines
 
 
-def main():
+def main() -> None:
     names = sorted(os.listdir(CRATES))
     asked = sys.argv[1:]
     if asked == ['--closed']:

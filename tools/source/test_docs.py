@@ -12,6 +12,9 @@ Each page has a folder of its own, with links to `hrthood`, `examples`, `tools` 
 PROGRAM is the path of the program, and the proved program of this repository where it isn't set. With --update the pages get what was written,
 where no line is left out. No part of the gate. Exit status 1 tells that something differs, and 2 that there is no program.
 """
+
+from __future__ import annotations
+
 import os
 import re
 import subprocess
@@ -22,7 +25,7 @@ TOP = os.path.dirname(os.path.dirname(os.path.dirname(os.path.abspath(__file__))
 LINKS = ('examples', 'tools', 'completion', 'man', 'docs', 'crates', 'crates.txt', 'README.md')
 
 
-def blocks_of(lines):
+def blocks_of(lines: list[str]) -> list[tuple[str | None, bool, int, int]]:
     """The fenced blocks of a page: the file that each is the text of (or None), whether it may be run, and the lines from one to another."""
     found = []
     named, is_run = None, True
@@ -48,7 +51,7 @@ def blocks_of(lines):
     return found
 
 
-def commands_of(lines):
+def commands_of(lines: list[str]) -> list[tuple[list[str], list[str]]]:
     """The commands of a block: each with its own lines' number, and the lines that it is to write."""
     commands = []
     place = 0
@@ -68,20 +71,20 @@ def commands_of(lines):
     return commands
 
 
-def fits(wanted, written):
+def fits(wanted: list[str], written: list[str]) -> bool:
     """Whether these lines are written, where `...` stands for any lines."""
     pattern = ''.join('(?:.*\n)*' if line == '...' else re.escape(line) + '\n' for line in wanted)
     return re.fullmatch(pattern, ''.join(line + '\n' for line in written)) is not None
 
 
-def run(typed, room):
+def run(typed: list[str], room: str) -> list[str]:
     """What a command writes, as lines."""
     done = subprocess.run(['bash', '-c', '\n'.join(typed)], cwd=room, stdin=subprocess.DEVNULL, stdout=subprocess.PIPE,
                           stderr=subprocess.STDOUT, timeout=600)
     return done.stdout.decode(errors='replace').splitlines()
 
 
-def find_program():
+def find_program() -> str:
     """The path of the program, which scripts find in PROGRAM too. A run without proof would take a minute for each command."""
     program = os.path.abspath(os.environ.get('PROGRAM', os.path.join(TOP, 'crates', 'hrthood', 'out', 'hrthood')))
     if not os.access(program, os.X_OK):
@@ -91,7 +94,7 @@ def find_program():
     return program
 
 
-def make_room(room):
+def make_room(room: str) -> None:
     """Links what commands use to a folder."""
     os.symlink(os.environ['PROGRAM'], os.path.join(room, 'hrthood'))
     for name in LINKS:
@@ -99,9 +102,10 @@ def make_room(room):
             os.symlink(os.path.join(TOP, name), os.path.join(room, name))
 
 
-def try_block(lines, room, page, begin):
+def try_block(lines: list[str], room: str, page: str, begin: int) -> tuple[list[str], int, int]:
     """The lines of a block as they come out, how many commands it has, and how many of them differ."""
-    out, wrong = [], 0
+    out: list[str] = []
+    wrong = 0
     commands = commands_of(lines)
     for typed, wanted in commands:
         written = run(typed, room)
@@ -115,7 +119,7 @@ def try_block(lines, room, page, begin):
     return out, len(commands), wrong
 
 
-def try_page(page, update):
+def try_page(page: str, update: bool) -> tuple[int, int, int, int]:
     """How many commands of a page were run, how many differ, how many files it gives, and how many blocks were not run."""
     with open(page) as text:
         lines = text.read().split('\n')
@@ -142,7 +146,7 @@ def try_page(page, update):
     return ran, wrong, files, left
 
 
-def main():
+def main() -> None:
     words = sys.argv[1:]
     update = '--update' in words
     pages = [word for word in words if word != '--update']

@@ -22,26 +22,12 @@ listed() {
     git ls-files --cached --others --exclude-standard -- "$@"
 }
 
-# Scripts in which each function has types. The others are checked without `--strict`.
-is_annotated() {
-    case $1 in
-        tools/gate/*_table.py | tools/gate/test_tables.py) ;;
-        tools/source/above.py | tools/source/check_*.py | tools/source/crate_table.py | tools/source/doors.py | tools/source/test_docs.py) ;;
-        *) return 1 ;;
-    esac
-}
-
 mapfile -t shell < <(listed '*.sh' hrthood .ci/run)
 mapfile -t python < <(listed '*.py')
-strict=() loose=()
-for file in "${python[@]}"; do
-    if is_annotated "$file"; then strict+=("$file"); else loose+=("$file"); fi
-done
-
 lint shellcheck -x -P SCRIPTDIR "${shell[@]}"
 lint flake8 --max-line-length 150 "${python[@]}"
-lint mypy --cache-dir out/mypy --strict --no-error-summary "${strict[@]}"
-lint mypy --cache-dir out/mypy --ignore-missing-imports --no-error-summary "${loose[@]}"
+# Modules of the kit have no types, and those of tools/report are imported from other folders.
+MYPYPATH=tools/report lint mypy --cache-dir out/mypy --strict --ignore-missing-imports --no-error-summary "${python[@]}"
 if command -v node >/dev/null; then
     while read -r file; do
         lint node --check "$file"

@@ -1,36 +1,41 @@
 #!/usr/bin/env python3
-"""The table of the crates in docs/ARCHITECTURE.md, made from the heads of their root files.
+"""Make the table of the crates in docs/ARCHITECTURE.md from the heads of their root files.
 
-    crate_table.py          fails where that page has another one
-    crate_table.py --write  puts it into that page
-    crate_table.py --print  prints it
+    crate_table.py          fail if that page has another one
+    crate_table.py --write  write it into that page
+    crate_table.py --print  print it
 
-A row has the crate, the first sentence of its head, and its door: the functions and types that its root file makes public. Crates come in the order of
-crates.txt.
+A row has the crate, the first sentence of its head, and the functions and types that its root file makes public. Crates come in the order
+of crates.txt.
 """
+from __future__ import annotations
+
 import os
 import re
 import sys
+from typing import Iterator
 
 top = os.path.dirname(os.path.dirname(os.path.dirname(os.path.realpath(__file__))))
 page = f'{top}/docs/ARCHITECTURE.md'
 MOST = 8
 
 
-def read(path):
+def read(path: str) -> str:
+    """Return the text of a file."""
     with open(path, encoding='utf-8') as text:
         return text.read()
 
 
-def crates():
-    """The names in crates.txt, in its order."""
+def crates() -> Iterator[str]:
+    """Yield the names in crates.txt, in its order."""
     for line in read(f'{top}/crates.txt').split('\n'):
         line = line.split('#')[0]
         if ':' in line:
             yield line.split(':')[0].split()[0]
 
 
-def root_of(crate):
+def root_of(crate: str) -> str:
+    """Return the text of the root file of a crate."""
     for name in ('lib.rt', 'main.rt'):
         path = f'{top}/crates/{crate}/src/{name}'
         if os.path.isfile(path):
@@ -38,7 +43,8 @@ def root_of(crate):
     sys.exit(f'crate_table.py: crate {crate} has no root file')
 
 
-def first_sentence(crate, text):
+def first_sentence(crate: str, text: str) -> str:
+    """Return the first sentence of the head of a root file."""
     head = []
     for line in text.split('\n'):
         if not line.startswith('//!') or line == '//!':
@@ -50,7 +56,8 @@ def first_sentence(crate, text):
     return found.group(1).replace('|', r'\|')
 
 
-def door(text):
+def interface(text: str) -> str:
+    """Return the functions and types that a root file makes public, at most MOST of them by name."""
     names = re.findall(r'^pub (?:unsafe |extern "C" )?fn (\w+)', text, re.M)
     for group in re.findall(r'^pub use [\w:]+::(\{[^}]*\}|\w+);', text, re.M):
         names += [name.strip() for name in group.strip('{}').split(',') if name.strip()]
@@ -63,23 +70,25 @@ def door(text):
     return ', '.join(told[:MOST]) + (f' and {more} more' if more > 0 else '')
 
 
-def table():
-    rows = ['| Crate | Has | Its door |', '|---|---|---|']
+def table() -> str:
+    """Return the table."""
+    rows = ['| Crate | Has | Public interface |', '|---|---|---|']
     for crate in crates():
         text = root_of(crate)
-        rows.append(f'| {crate} | {first_sentence(crate, text)} | {door(text)} |')
+        rows.append(f'| {crate} | {first_sentence(crate, text)} | {interface(text)} |')
     return '\n'.join(rows) + '\n'
 
 
-def in_page(text):
-    """Where the table stands in the page."""
-    found = re.search(r'^\| Crate \| Has \| Its door \|\n(?:\|.*\n)+', text, re.M)
+def in_page(text: str) -> tuple[int, int]:
+    """Return where the table begins and ends in the page."""
+    found = re.search(r'^\| Crate \| Has \| Public interface \|\n(?:\|.*\n)+', text, re.M)
     if not found:
         sys.exit('crate_table.py: docs/ARCHITECTURE.md has no table of the crates')
     return found.span()
 
 
-def main(words):
+def main(words: list[str]) -> None:
+    """Print, write or check the table."""
     if words == ['--print']:
         print(table(), end='')
         return
@@ -90,7 +99,7 @@ def main(words):
             it.write(text[:begin] + table() + text[end:])
     elif not words:
         if text[begin:end] != table():
-            sys.exit('crate_table.py: the table of the crates in docs/ARCHITECTURE.md is not that of their root files; tools/source/crate_table.py --write mends it')
+            sys.exit('crate_table.py: docs/ARCHITECTURE.md is out of date: run tools/source/crate_table.py --write')
         print(f'crate_table.py: {table().count(chr(10)) - 2} crates, all as in docs/ARCHITECTURE.md')
     else:
         sys.exit(__doc__)

@@ -7,12 +7,16 @@ MODULE.wasm is what retarget.py makes of the crate `page`, LAST_LINE the last li
 of what the page is made of. The page shows both lines, and has the second one in its head, for scripts. Everything else is taken from web/ and
 examples/ of this repository. web/tools/make_page.sh does all steps.
 """
+
+from __future__ import annotations
+
 import base64
 import html
 import json
 import os
 import re
 import sys
+from typing import Any
 
 TOP = os.path.dirname(os.path.dirname(os.path.dirname(os.path.abspath(__file__))))
 # Modules, each behind those that it imports, with what the scripts of the page use of them; then the scripts, which share their names.
@@ -35,22 +39,22 @@ EXAMPLES = (
 )
 
 
-def text_of(*path):
+def text_of(*path: str) -> str:
     with open(os.path.join(TOP, *path), encoding='utf-8') as text:
         return text.read()
 
 
-def as_script(value):
+def as_script(value: Any) -> str:
     """The value as JavaScript that may stand in a page's script."""
     return json.dumps(value).replace('<', '\\u003c')
 
 
-def examples():
+def examples() -> dict[str, dict[str, str]]:
     kinds = ('design', 'arrivals', 'trace')
     return {name: {kind: text_of('examples', file) for kind, file in zip(kinds, files)} for name, *files in EXAMPLES}
 
 
-def module(name, used):
+def module(name: str, used: tuple[str]) -> str:
     """A module as a part of the one script: a function that is called at once, whose value is what it exports."""
     text = text_of('web', name + '.js')
     text = re.sub(r'^import (\{[^}]*\}) from "\./(\w+)\.js";$', r'const \1 = module_\2;', text, flags=re.M)
@@ -62,7 +66,7 @@ def module(name, used):
             f'const {{ {", ".join(used)} }} = module_{name};')
 
 
-def scripts():
+def scripts() -> str:
     """The modules and scripts as one. None of them may end the element in which they stand."""
     parts = [module(name, used) for name, used in MODULES] + [text_of('web', name + '.js') for name in SCRIPTS]
     whole = '\n'.join(parts)
@@ -71,7 +75,7 @@ def scripts():
     return whole
 
 
-def filled(page, parts):
+def filled(page: str, parts: dict[str, str]) -> str:
     """The page with each part in its place. A place stands once, and what is put there is not looked at again."""
     pieces = re.split(r'@([A-Z]+)@', page)
     names = pieces[1::2]

@@ -63,7 +63,7 @@ tabled-served-at-once limit p ts rows v r trace readable tabled fits accepted m
     = (known limit p ts rows v r trace readable tabled fits accepted m).2
 
 -- a sporadic task that is served at once
-once-sporadic : (trace : List Event) (name : Name) (timing : Timing) → is_sporadic timing ≡ true → IsServedAtOnce trace name timing
+pub once-sporadic : (trace : List Event) (name : Name) (timing : Timing) → is_sporadic timing ≡ true → IsServedAtOnce trace name timing
     → AreServedAtOnce None (notices name trace)
 once-sporadic trace name (Cyclic period offset) e s = absurd (false≢true e)
 once-sporadic trace name (Sporadic op separation jitter) e s = s

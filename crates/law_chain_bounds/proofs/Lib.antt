@@ -1,0 +1,4 @@
+mod EarlyRequests
+mod LevelSteps
+mod TabledChains
+mod PrintedChains

@@ -120,7 +120,7 @@ module _ (ts : List Ranked) (rows : List ThreadRow) (v : List Bound) (has : Has 
       (λ q h. (h.0, omega (arith, h.1, low), h.2))
 
   total-append : (as' bs : List Response) → total (as' ++ bs) ≡ total as' + total bs
-  total-append [] bs = refl
+  total-append [] bs = omega arith
   total-append (a ∷ as') bs = omega (arith, total-append as' bs)
 
   -- the chain of some rows, from the last one up
@@ -193,19 +193,18 @@ module _ (ts : List Ranked) (rows : List ThreadRow) (v : List Bound) (has : Has 
 
   -- the rows up from a row are a chain
   is-chain : (count at : ℕ) (row : ThreadRow) → slice_get rows at ≡ Some row → IsChain (up_from (suc count) rows (Some at))
-  is-chain count at row line =
-      let starts : starter_of (slice_get rows at) ≡ row.starter = ap starter_of line in
-      subst (λ o. IsChain (at ∷ up_from count rows o)) (sym starts) (by count row.starter refl)
+  is-chain zero at row line = alone at (row-time at row line)
+  is-chain (suc n) at row line =
+      subst (λ o. IsChain (at ∷ up_from (suc n) rows o)) (sym (ap starter_of line))
+      (by row.starter refl (λ s other there. is-chain n s other there))
     where
-      t : RowTime at
-      t = row-time at row line
-
-      by : (n : ℕ) (o : Option ℕ) → row.starter ≡ o → IsChain (at ∷ up_from n rows o)
-      by zero o e = alone at t
-      by (suc n) None e = alone at t
-      by (suc n) (Some s) e =
+      by : (o : Option ℕ) → row.starter ≡ o
+          → ((s : ℕ) (other : ThreadRow) → slice_get rows s ≡ Some other → IsChain (up_from (suc n) rows (Some s)))
+          → IsChain (at ∷ up_from (suc n) rows o)
+      by None e later = alone at (row-time at row line)
+      by (Some s) e later =
           let other = has-at rows s (has.starters at s row line e) in
-          longer at row s (up_from (suc n) rows (Some s)) line e t (is-chain n s other.0 other.1)
+          longer at row s (up_from (suc n) rows (Some s)) line e (row-time at row line) (later s other.0 other.1)
 
 -- what holds of each item of the table's own lists
 row-at : {A : Type 0} (P : A → Type 0) (xs : List A) (k : ℕ) (x : A) → tables.Each P xs → slice_get xs k ≡ Some x → P x

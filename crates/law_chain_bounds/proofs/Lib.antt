@@ -2,3 +2,5 @@ mod EarlyRequests
 mod LevelSteps
 mod TabledChains
 mod PrintedChains
+mod Examples
+mod WorkedMine

@@ -1,5 +1,5 @@
 -- Examples of what a trace tells of a level that rests, and of ticks used.
-use Rattle.std.specs.Prelude.{ℕ, ◌≤◌, ◌<◌, List, [], ◌∷◌, None, codes}
+use Rattle.std.specs.Prelude.{◌≤◌, List, [], ◌∷◌, None, codes}
 use Rattle.std.proofs.Common.{arith}
 use Rattle.seq_tree.specs.Names.{Name}
 use Rattle.guarantee.specs.Events.{Release, End, Event, By, Horizon}

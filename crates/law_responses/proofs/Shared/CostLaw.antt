@@ -1,6 +1,6 @@
 -- In every run of a program with a table, each activation of a task uses at most the cost of its row.
-use Rattle.std.specs.Prelude.{◌≡◌, ℕ, ◌<◌, List, [], Some, slice_get}
-use Rattle.std.proofs.Common.{sym, ◌∙◌, ap, subst, arith}
+use Rattle.std.specs.Prelude.{◌≡◌, ℕ, List, Some, slice_get}
+use Rattle.std.proofs.Common.{sym, subst, arith}
 use Rattle.seq_tree.specs.Lists.{Each}
 use Rattle.ada_tree.specs.Programs.{Program}
 use Rattle.ada_tree.specs.Rules.{MeetsRules}
@@ -8,7 +8,7 @@ use Rattle.arrivals_tree.specs.Arriving.{Arrivals}
 use Rattle.arrivals_tree.specs.Acceptance.{IsAccepted}
 use Rattle.machine.specs.States.{opening}
 use Rattle.machine.specs.Systems.{system}
-use Rattle.machine.specs.Meanings.{Meaning, run}
+use Rattle.machine.specs.Meanings.{Meaning}
 use Rattle.trace_tree.specs.declared.event.Event as machine
 use Rattle.rt_response.specs.declared.rows.ThreadRow.{ThreadRow}
 use Rattle.guarantee.specs.Events.{named}

@@ -1,5 +1,5 @@
 -- Examples of requests before ends, of threads that rest, and of the chains of a table: one that holds, and one that breaks each clause.
-use Rattle.std.specs.Prelude.{◌≡◌, ℕ, ◌+◌, ◌≤◌, ◌<◌, List, [], ◌∷◌, Some, None, codes, refl}
+use Rattle.std.specs.Prelude.{◌≡◌, ◌+◌, ◌≤◌, ◌<◌, List, [], ◌∷◌, None, codes, refl}
 use Rattle.std.proofs.Common.{arith}
 use Rattle.seq_tree.specs.Names.{Name}
 use Rattle.rt_response.specs.declared.rows.Bound.{Bound}

@@ -1,7 +1,7 @@
 -- The chains of a design's table are chains of its program's tasks: a row that another starts is that of a sporadic thread.
-use Rattle.std.specs.Prelude.{◌≡◌, ◌⊎◌, ℕ, zero, suc, ◌+◌, ◌-◌, ◌≤◌, ◌<◌, Bool, true, false, List, [], ◌∷◌, ◌++◌, length, map, filter_map, reverse, zip}
-use Rattle.std.specs.Prelude.{max, fold, sum_by, slice_get, Option, Some, None, IfSome, option_map, ⊤, refl}
-use Rattle.std.specs.List.{AllZip, cons_option}
+use Rattle.std.specs.Prelude.{◌≡◌, ◌⊎◌, ℕ, zero, suc, ◌+◌, ◌≤◌, ◌<◌, true, List, [], ◌∷◌, ◌++◌, length, map, filter_map, reverse, zip}
+use Rattle.std.specs.Prelude.{fold, slice_get, Option, Some, None, IfSome, option_map, refl}
+use Rattle.std.specs.List.{cons_option}
 use Rattle.std.proofs.Common.{sym, ◌∙◌, ap, subst, arith, inl, inr}
 use Rattle.std.proofs.lemmas.Bool.{cases_lt}
 use Rattle.std.proofs.lemmas.List.{reverse-append}
@@ -16,7 +16,6 @@ use Rattle.ods_tree.specs.Proper.{IsProperDesign}
 use Rattle.ods_tree.specs.Ticks.{in_ticks, first_priority}
 use Rattle.ods_tree.specs.Words.{is_design_name}
 use Rattle.design_rules.specs.Rules.{MeetsRules}
-use Rattle.ada_tree.specs.Programs.{Program}
 use Rattle.arrivals_tree.specs.Arriving.{Arrivals}
 use Rattle.arrivals_tree.specs.Acceptance.{IsAccepted}
 use Rattle.machine.specs.Meanings.{Meaning}
@@ -28,7 +27,7 @@ use Rattle.rt_response.specs.Tables.{IsTable, IsRow, IsStarter}
 use Rattle.rt_response.specs.Tables as tables
 use Rattle.response_terms.specs.Paths.{chain_up, up_from, chain_response, response_in, starter_of}
 use Rattle.analysis.specs.Priorities.{priorities_of}
-use Rattle.analysis.specs.Sound.{IsSound, IsSpaced}
+use Rattle.analysis.specs.Sound.{IsSound}
 use Rattle.analysis.specs.Tables as analysis
 use Rattle.analysis.specs.Tables.{downwards, table}
 use Rattle.guarantee.specs.Bounded.{Response}
@@ -37,10 +36,10 @@ use Rattle.guarantee.specs.MachineLaw.{IsReadable}
 use Rattle.guarantee.specs.Programs.{program, responses}
 use Rattle.guarantee.specs.ResponseLaw.{Ranked, AreTabled, times_of}
 use Rattle.guarantee.specs.ResponseLaw as law
-use Rattle.law_calls.proofs.Shared.Lists.{each-append, each-by, each-to, zip-first, zip-second}
-use Rattle.law_calls.proofs.Shared.Places.{all-at, map-at, mapped-at, same-item, zip-at}
+use Rattle.law_calls.proofs.Shared.Lists.{each-append, each-to, zip-second}
+use Rattle.law_calls.proofs.Shared.Places.{map-at, mapped-at, same-item, zip-at}
 use Rattle.law_chains.specs.Chains.{ChainResponds, total}
-use Rattle.law_designs.proofs.Shared.PriorityLists.{Entry, entries, ranked_entry, row_entry, in_order, rows-are}
+use Rattle.law_designs.proofs.Shared.PriorityLists.{entries, ranked_entry, row_entry, in_order, rows-are}
 use Rattle.law_designs.proofs.Shared.ReadablePrograms.{program-readable}
 use Rattle.law_designs.proofs.Shared.SoundDesigns.{flat-sound, flat-spaced}
 use Rattle.law_designs.proofs.Shared.TabledPrograms.{has-at, flat-tabled, responses-are}
@@ -50,8 +49,8 @@ use Rattle.law_responses.proofs.Shared.CostLaw.{tasks-keep-to-costs}
 use Rattle.law_runs.specs.Chains.{is_sporadic, HasSporadic}
 use Rattle.law_runs.proofs.Shared.Chained.{tabled-chains}
 use Rattle.law_chain_bounds.specs.Printed.{chain_of, OfChain, lowest_row, lowest_response, PrintedChainResponds, PrintedChainsRespond}
-use Rattle.law_chain_bounds.specs.Printed.{PrintedChainsKeepToLevels, ThreadsKeepToCosts}
-use Rattle.law_chain_bounds.proofs.TabledChains.{IsTimed, timed-at, tabled-chains-keep-to-levels}
+use Rattle.law_chain_bounds.specs.Printed.{PrintedChainsKeepToLevels, LevelsAreWithinSums, ThreadsKeepToCosts}
+use Rattle.law_chain_bounds.proofs.TabledChains.{tabled-chains-keep-to-levels}
 
 -- a row that another starts is that of a sporadic task
 abbrev StartsSporadic : Ranked → ThreadRow → Type 0
@@ -75,6 +74,37 @@ started-rows-are-sporadic f first at t row here line starter told =
     let starts : analysis.starter_of f (priorities_of f) own.0.0.name own.0.0.timing ≡ Some starter = ap (λ z. z.starter) own.2 ∙ told in
     ap (λ z. is_sporadic z.task.timing) (sym entry.2) ∙ ap (λ z. is_sporadic z.0.timing) same
     ∙ sporadic-starts f (priorities_of f) own.0.0.name own.0.0.timing starter starts
+
+-- the sum of response times, from a number on
+sum-from : (v : List Bound) (a : ℕ) (places : List ℕ)
+    → fold (λ n at. n + response_in (slice_get v at)) a places ≡ a + fold (λ n at. n + response_in (slice_get v at)) 0 places
+sum-from v a [] = omega arith
+sum-from v a (p ∷ ps) =
+    let left = sum-from v (a + response_in (slice_get v p)) ps in
+    let right = sum-from v (0 + response_in (slice_get v p)) ps in
+    omega (arith, left, right)
+
+-- the response time of the lowest row is one of those that are added
+pub levels-are-within-sums : LevelsAreWithinSums
+levels-are-within-sums v at [] =
+    let top : lowest_row (at ∷ []) ≡ at = omega arith in
+    let same : lowest_response v (at ∷ []) ≡ response_in (slice_get v at) = ap (λ k. response_in (slice_get v k)) top in
+    omega (arith, same)
+levels-are-within-sums v at (next ∷ more) = by (cases_lt at (lowest_row (next ∷ more))) (levels-are-within-sums v next more)
+  where
+    all : chain_response v (at ∷ next ∷ more) ≡ 0 + response_in (slice_get v at) + chain_response v (next ∷ more)
+    all = sum-from v (0 + response_in (slice_get v at)) (next ∷ more)
+
+    by : (at < lowest_row (next ∷ more)) ⊎ (lowest_row (next ∷ more) ≤ at) → lowest_response v (next ∷ more) ≤ chain_response v (next ∷ more)
+        → lowest_response v (at ∷ next ∷ more) ≤ chain_response v (at ∷ next ∷ more)
+    by (inl less) rest =
+        let top : lowest_row (at ∷ next ∷ more) ≡ lowest_row (next ∷ more) = omega (arith, less) in
+        let same : lowest_response v (at ∷ next ∷ more) ≡ lowest_response v (next ∷ more) = ap (λ k. response_in (slice_get v k)) top in
+        omega (arith, same, rest, all)
+    by (inr low) rest =
+        let top : lowest_row (at ∷ next ∷ more) ≡ at = omega (arith, low) in
+        let same : lowest_response v (at ∷ next ∷ more) ≡ response_in (slice_get v at) = ap (λ k. response_in (slice_get v k)) top in
+        omega (arith, same, all)
 
 -- what is known of a table with its bounds
 record Has (ts : List Ranked) (rows : List ThreadRow) (v : List Bound) : Type 0 where
@@ -133,15 +163,6 @@ module _ (ts : List Ranked) (rows : List ThreadRow) (v : List Bound) (has : Has 
     sum : total (first ∷ more) ≡ chain_response v up
     lowest : (low : Response) × (slice_get (times_of ts v) (lowest_row up) ≡ Some low) × (low.ticks ≡ lowest_response v up)
 
-  -- the sum of response times, from a number on
-  sum-from : (a : ℕ) (places : List ℕ)
-      → fold (λ n at. n + response_in (slice_get v at)) a places ≡ a + fold (λ n at. n + response_in (slice_get v at)) 0 places
-  sum-from a [] = omega arith
-  sum-from a (p ∷ ps) =
-      let left = sum-from (a + response_in (slice_get v p)) ps in
-      let right = sum-from (0 + response_in (slice_get v p)) ps in
-      omega (arith, left, right)
-
   alone : (at : ℕ) → RowTime at → IsChain (at ∷ [])
   alone at t = record {
     first = t.time;
@@ -170,7 +191,7 @@ module _ (ts : List Ranked) (rows : List ThreadRow) (v : List Bound) (has : Has 
     sum =
         let added : total ((c.first ∷ c.more) ++ t.time ∷ []) ≡ total (c.first ∷ c.more) + total (t.time ∷ [])
         = total-append (c.first ∷ c.more) (t.time ∷ []) in
-        let all = sum-from (0 + response_in (slice_get v at)) up in
+        let all = sum-from v (0 + response_in (slice_get v at)) up in
         omega (arith, added, c.sum, all, t.ticks);
     lowest = by (cases_lt at (lowest_row up));
   }

@@ -1,9 +1,8 @@
 -- In every run of a program, a chain of tasks of a table that fits takes at most the response time of the lowest of their rows.
-use Rattle.std.specs.Prelude.{◌≡◌, ℕ, zero, suc, ◌+◌, ◌≤◌, ◌<◌, true, List, [], ◌∷◌, map, Some, None, slice_get, refl}
-use Rattle.std.proofs.Common.{sym, ◌∙◌, ap, subst}
+use Rattle.std.specs.Prelude.{◌≡◌, ℕ, zero, suc, ◌≤◌, List, [], ◌∷◌, map, Some, None, slice_get, refl}
+use Rattle.std.proofs.Common.{ap, subst}
 use Rattle.std.proofs.lemmas.Option.{same_Some}
 use Rattle.seq_tree.specs.Lists.{Each}
-use Rattle.seq_tree.specs.Names.{Name}
 use Rattle.rt_response.specs.declared.rows.Bound.{Bound}
 use Rattle.guarantee.specs.Software.{Task}
 use Rattle.guarantee.specs.Bounded.{Response}

@@ -1,7 +1,7 @@
 -- A worked example: the chain of the mine pump's methane sensor and its alarm takes at most 29 ticks in every run, where its response times add up
 -- to 52; and the sensor uses at most 21.
-use Rattle.std.specs.Prelude.{◌≡◌, ℕ, List, [], ◌∷◌, Some, codes, refl}
-use Rattle.std.proofs.Common.{lit≤, arith, inl, inr}
+use Rattle.std.specs.Prelude.{List, [], ◌∷◌, codes, refl}
+use Rattle.std.proofs.Common.{lit≤, inl, inr}
 use Rattle.seq_tree.specs.Proper.{within_limits}
 use Rattle.ods_tree.specs.Words.{is_design_name}
 use Rattle.ods_tree.specs.Proper.{IsProperDesign}

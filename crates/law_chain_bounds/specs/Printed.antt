@@ -1,6 +1,6 @@
 -- What is promised of the chains and the costs that are printed of a design with bounds: of each row with its starters up to the first one.
 -- Sums along chains are those of Tindell and Clark 1994.
-use Rattle.std.specs.Prelude.{◌≡◌, ℕ, List, [], ◌∷◌, map, filter_map, reverse, zip, max, Some, slice_get, IfSome}
+use Rattle.std.specs.Prelude.{◌≡◌, ℕ, ◌≤◌, List, [], ◌∷◌, map, filter_map, reverse, zip, max, Some, slice_get, IfSome}
 use Rattle.seq_tree.specs.Lists.{Each}
 use Rattle.seq_tree.specs.Names.{Name}
 use Rattle.seq_tree.specs.Proper.{within_limits}
@@ -43,6 +43,10 @@ lowest_row (at ∷ more) = max at (lowest_row more)
 -- the response time of the thread of lowest priority among these rows
 abbrev pub lowest_response : List Bound → List ℕ → ℕ
 lowest_response v rows = response_in (slice_get v (lowest_row rows))
+
+-- it is at most the sum of the response times along the chain
+abbrev pub LevelsAreWithinSums : Type 0
+LevelsAreWithinSums = (v : List Bound) (at : ℕ) (more : List ℕ) → lowest_response v (at ∷ more) ≤ chain_response v (at ∷ more)
 
 -- the chain of a row of a design takes at most so many ticks, in a trace
 abbrev pub PrintedChainResponds : Flat → List Bound → ℕ → List Event → ℕ → ℕ → Type 0

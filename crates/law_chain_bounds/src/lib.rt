@@ -12,7 +12,7 @@
 
 ghost use Rattle.std.specs.Prelude.{ℕ};
 ghost use Rattle.law_chain_bounds.specs.Levels.{ChainsOfLevelsRespond, TabledChainsKeepToLevels};
-ghost use Rattle.law_chain_bounds.specs.Printed.{PrintedChainsKeepToLevels, PrintedChainsRespond, ThreadsKeepToCosts};
+ghost use Rattle.law_chain_bounds.specs.Printed.{LevelsAreWithinSums, PrintedChainsKeepToLevels, PrintedChainsRespond, ThreadsKeepToCosts};
 ghost use Rattle.law_chain_bounds.specs.Requests.{RunsRequestBeforeEnds};
 
 /// In every run of a program that meets the rules, a request comes a tick or more before each end of an activation that is told after it.
@@ -49,6 +49,11 @@ pub fn printed_chains_respond()
 /// The arrivals are accepted. `limit` is the farthest horizon allowed, in ticks.
 pub fn printed_chains_keep_to_levels()
     ensures { (limit : ℕ) → PrintedChainsKeepToLevels limit }
+{}
+
+/// The response time of the lowest row of a chain is at most the sum of the response times along it: so the second bound is never the worse one.
+pub fn levels_are_within_sums()
+    ensures { LevelsAreWithinSums }
 {}
 
 /// In every run of the program of a design that meets the rules, each activation of a thread uses at most the cost that is printed of the

@@ -9,7 +9,7 @@ top=$(CDPATH='' cd -- "$(dirname -- "${BASH_SOURCE[0]}")/.." && pwd)
 room=$(mktemp -d)
 trap 'rm -rf "$room"' EXIT
 program=${PROGRAM:-$top/crates/hrthood/out/hrthood}
-[ -n "${PROGRAM:-}" ] || "$top/tools/prove_program.sh" >/dev/null
+[ -n "${PROGRAM:-}" ] || "$top/tools/gate/prove_program.sh" >/dev/null
 
 base=$top/examples/one_cyclic_task.ada
 arrivals=$top/examples/until_20.arrivals

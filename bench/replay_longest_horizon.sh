@@ -10,7 +10,7 @@ trap 'rm -rf "$scratch"' EXIT
 printf 'UNTIL 1000000000;\n' >"$scratch/longest.arrivals"
 
 # Proves and builds the program before the clock starts.
-"$top/tools/prove_program.sh" >/dev/null
+"$top/tools/gate/prove_program.sh" >/dev/null
 
 for period in 2000 1000000000; do
     sed -e '/^-- /d' -e "s/hrt.after (hrt_next, 10)/hrt.after (hrt_next, $period)/" \

@@ -22,7 +22,7 @@ text 'for i in word range 1 .. 4294967295 loop level := level + i; end loop;' >"
 text 'for i in word range 1 .. 4294967295 loop filter.smooth (i, level, level); end loop;' >"$scratch/calls.ada"
 
 # Proves and builds the program before the clock starts.
-"$top/tools/prove_program.sh" >/dev/null
+"$top/tools/gate/prove_program.sh" >/dev/null
 
 for form in assignments calls; do
     begun=$EPOCHREALTIME

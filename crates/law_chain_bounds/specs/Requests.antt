@@ -1,5 +1,5 @@
 -- Requests and the ends of activations: none ends at the time of a request, after it.
--- An activation ends with a piece of a tick at least, so a tick is left when it requests (Burns and Wellings 1995 has the chain, not the tick).
+-- An activation ends with a piece of FINISH, which takes a tick at least, so the processor has a tick to run after each request.
 use Rattle.std.specs.Prelude.{ℕ, ◌<◌, List, [], ◌∷◌, ⊤}
 use Rattle.ada_tree.specs.Programs.{Program}
 use Rattle.ada_tree.specs.Rules.{MeetsRules}
@@ -14,7 +14,7 @@ EndAfter time [] = ⊤
 EndAfter time (By at task (End used) ∷ told) = (time < at) × EndAfter time told
 EndAfter time (_ ∷ told) = EndAfter time told
 
--- each request comes a tick or more before every end that is told after it
+-- each request comes a tick or more before every later end
 abbrev pub RequestsComeBeforeEnds : List Event → Type 0
 RequestsComeBeforeEnds [] = ⊤
 RequestsComeBeforeEnds (By time task (Request target value) ∷ told) = EndAfter time told × RequestsComeBeforeEnds told

@@ -15,7 +15,7 @@ ghost use Rattle.law_chain_bounds.specs.Levels.{ChainsOfLevelsRespond, TabledCha
 ghost use Rattle.law_chain_bounds.specs.Printed.{LevelsAreWithinSums, PrintedChainsKeepToLevels, PrintedChainsRespond, ThreadsKeepToCosts};
 ghost use Rattle.law_chain_bounds.specs.Requests.{RunsRequestBeforeEnds};
 
-/// In every run of a program that meets the rules, a request comes a tick or more before each end of an activation that is told after it.
+/// In every run of a program that meets the rules, a request comes a tick or more before each later end of an activation.
 pub fn runs_request_before_ends()
     ensures { RunsRequestBeforeEnds }
 {}
@@ -27,8 +27,8 @@ pub fn chains_of_levels_respond()
     ensures { ChainsOfLevelsRespond }
 {}
 
-/// In every run of a program, a chain of tasks that stand in a table that fits, all but the first of them sporadic, takes at most the response
-/// time of a task of the table whose priority is not above theirs.
+/// In every run of a program, a chain of tasks of a table that fits, all but the first of them sporadic, takes at most the response time of a
+/// task of the table whose priority is not above theirs.
 ///
 /// The program can be read and the arrivals are accepted. `limit` is the farthest horizon allowed, in ticks.
 pub fn tabled_chains_keep_to_levels()

@@ -1,4 +1,4 @@
--- The ticks that activations use, as a trace tells them at their ends, and the cost that a table has of them.
+-- The ticks that activations use, as a trace has them at their ends, and their cost in a table.
 -- A cost is a worst-case execution time by paths (Joseph and Pandya 1986).
 use Rattle.std.specs.Prelude.{◌≡◌, ℕ, ◌≤◌, List, [], ◌∷◌, Some, slice_get, ⊤}
 use Rattle.seq_tree.specs.Names.{Name, same_name}
@@ -13,7 +13,7 @@ use Rattle.guarantee.specs.Bounded.{Either}
 use Rattle.guarantee.specs.MachineLaw.{IsReadable}
 use Rattle.guarantee.specs.ResponseLaw.{Ranked, AreTabled}
 
--- each end of an activation of a thread tells at most so many ticks used
+-- each activation of a thread that ends has used at most so many ticks
 abbrev pub UsesAtMost : ℕ → Name → List Event → Type 0
 UsesAtMost cost thread [] = ⊤
 UsesAtMost cost thread (By time task (End used) ∷ told) = Either (same_name task thread) (used ≤ cost) ⊤ × UsesAtMost cost thread told

@@ -1,0 +1,465 @@
+#!/usr/bin/env python3
+"""Tests of the scripts that users run, and of the man page and the completion, by hand-made lines.
+
+    test_tools.py [-v]
+
+PROGRAM is the path of the program, and the proved program of this repository where it isn't set. Without one, and without bash, the tests that
+need it are skipped, which is told. No part of the gate.
+"""
+import csv
+import importlib.util
+import os
+import re
+import shutil
+import subprocess
+import sys
+import tempfile
+import unittest
+
+TOOLS = os.path.dirname(os.path.abspath(__file__))
+TOP = os.path.dirname(os.path.dirname(TOOLS))
+SOURCE = os.path.join(TOP, 'tools', 'source')
+PROGRAM = os.path.abspath(os.environ.get('PROGRAM', os.path.join(TOP, 'crates', 'hrthood', 'out', 'hrthood')))
+HAS_PROGRAM = os.access(PROGRAM, os.X_OK)
+
+
+def load(name, folder=TOOLS):
+    """A script as a module."""
+    spec = importlib.util.spec_from_file_location(name, os.path.join(folder, name + '.py'))
+    module = importlib.util.module_from_spec(spec)
+    spec.loader.exec_module(module)
+    return module
+
+
+def run(words, given='', **environment):
+    """The status of a command, and what it writes on standard output and standard error."""
+    done = subprocess.run(words, input=given, capture_output=True, text=True, env={**os.environ, **environment}, timeout=60)
+    return done.returncode, done.stdout, done.stderr
+
+
+BOUNDS = '''thread a priority 2 period 10 deadline 8 jitter 0 cost 3 blocking 1 response 4
+thread b priority 1 period 30 deadline 20 jitter 5 cost 5 blocking 0 response 8
+ceiling q 2
+'''
+
+
+class Tables(unittest.TestCase):
+    """bounds_table.py"""
+
+    def test_table(self):
+        status, out, err = run([sys.executable, os.path.join(TOOLS, 'bounds_table.py')], BOUNDS)
+        self.assertEqual((status, err), (0, ''))
+        self.assertEqual(out.splitlines()[2:], [
+            '| a | 2 | 10 | 8 | 0 | 3 | 1 | 4 | 4 | 30.00 % |',
+            '| b | 1 | 30 | 20 | 5 | 5 | 0 | 8 | 12 | 16.67 % |',
+            '',
+            'Utilisation 46.67 %; the least slack is 4 ticks, of a.',
+            '',
+            'Ceilings: q 2.',
+        ])
+
+    def test_values(self):
+        status, out, _ = run([sys.executable, os.path.join(TOOLS, 'bounds_table.py'), '--csv'], BOUNDS)
+        self.assertEqual(status, 0)
+        self.assertEqual(out.splitlines()[1:], ['a,2,10,8,0,3,1,4,4,300000', 'b,1,30,20,5,5,0,8,12,166667'])
+
+    def test_why(self):
+        status, out, _ = run([sys.executable, os.path.join(TOOLS, 'bounds_table.py'), '--why'], BOUNDS)
+        self.assertEqual(status, 0)
+        self.assertEqual(out.splitlines(), ['a 4 = cost 3 + blocking 1', 'b 8 = cost 5 + blocking 0 + a 1 x 3'])
+
+    def test_jitter_counts(self):
+        """Within 8 ticks a thread of period 10 whose jitter is 3 is released at most twice."""
+        table = load('bounds_table')
+        threads, _ = table.read_lines(BOUNDS.replace('jitter 0', 'jitter 3').splitlines())
+        self.assertEqual(table.parts_of(threads[1], threads), [(threads[0], 2)])
+
+    def test_wrong_sum(self):
+        status, _, err = run([sys.executable, os.path.join(TOOLS, 'bounds_table.py')], BOUNDS.replace('response 8', 'response 9'))
+        self.assertEqual((status, err), (1, 'bounds_table.py: no sum of its parts is the response of b\n'))
+
+    def test_other_lines(self):
+        for given in ('', 'ok d objects 1 threads 1\n', BOUNDS + 'thread c\n'):
+            status, out, err = run([sys.executable, os.path.join(TOOLS, 'bounds_table.py')], given)
+            self.assertEqual((status, out), (1, ''))
+            self.assertIn('analyse', err)
+
+
+DESIGN = '''DESIGN d IS
+   COSTS
+      ASSIGN = 1;
+   END COSTS;
+   OBJECT whole IS ACTIVE
+      OBJECTS
+         OBJECT store IS PROTECTED
+            PROVIDES
+               keep (v : in word) PAER;
+            OBJECTS
+               OBJECT cell IS PROTECTED
+                  PROVIDES
+                     hold (v : in word) PAER;
+                  OPERATION hold IS
+                  BEGIN
+                     null;
+                  END hold;
+               END cell;
+            IMPLEMENTS
+               keep BY cell.hold;
+         END store;
+         OBJECT reader IS CYCLIC
+            ATTRIBUTES
+               PERIOD = 10;
+            REQUIRES
+               store.keep;
+               alarm.sound;
+            DATA
+               v : word := 0;
+            THREAD
+               if v = 1 then
+                  store.keep (v);
+                  alarm.sound;
+               end if;
+               store.keep (2);
+               absent.keep (3);
+            END THREAD;
+         END reader;
+         OBJECT alarm IS SPORADIC
+            ATTRIBUTES
+               ARRIVAL_JITTER = 5;
+            PROVIDES
+               sound ASER;
+            THREAD
+               null;
+            END THREAD;
+         END alarm;
+   END whole;
+END d;
+'''
+
+
+PAIR = '''DESIGN d IS
+COSTS ASSIGN = 1; TEST = 1; TURN = 1; CALL = 2; NULL = 1; PUT = 1; FINISH = 1; END COSTS;
+OBJECT whole IS ACTIVE
+OBJECTS
+OBJECT a IS CYCLIC
+ATTRIBUTES PERIOD = 10; DEADLINE = 10; THREAD_BUDGET = 4;
+THREAD work (3); END THREAD;
+END a;
+OBJECT b IS CYCLIC
+ATTRIBUTES PERIOD = 20; DEADLINE = 20; THREAD_BUDGET = 5;
+THREAD work (4); END THREAD;
+END b;
+END whole;
+END d;
+'''
+
+
+class Margins(unittest.TestCase):
+    """margins.py"""
+
+    def table(self, design):
+        """What the script writes of a design, as status, lines and standard error."""
+        with tempfile.TemporaryDirectory() as room:
+            file = os.path.join(room, 'one.design')
+            with open(file, 'w', encoding='utf-8') as text:
+                text.write(design)
+            status, out, err = run([sys.executable, os.path.join(TOOLS, 'margins.py'), '--csv', file], PROGRAM=PROGRAM)
+        return status, out.splitlines(), err.replace(file, 'one.design')
+
+    def test_ticks(self):
+        """Ticks are rounded up, and cut at the greatest number."""
+        margins = load('margins')
+        self.assertEqual([margins.scaled_ticks(1, n) for n in (1, 1000, 1001)], [1, 1, 2])
+        self.assertEqual([margins.scaled_ticks(1001, n) for n in (1, 4, 1000000000)], [2, 5, 1000000000])
+
+    def test_changed(self):
+        """The work of that thread alone is changed, and no call of an operation of that name; budgets become the greatest."""
+        margins = load('margins')
+        lines = ['   OBJECT one IS CYCLIC', '      ATTRIBUTES', '         THREAD_BUDGET = 5 ms;', '      THREAD', '         work (3);',
+                 '         other.work (3);', '      END THREAD;', '   END one;', '   OBJECT two IS CYCLIC', '      THREAD', '         work (7);',
+                 '      END THREAD;', '   END two;']
+        text = '\n'.join(lines)
+        self.assertEqual(margins.threads_of(text), [('one', 4, 6), ('two', 10, 11)])
+        wanted = list(lines)
+        wanted[2] = '         THREAD_BUDGET = 1000000000;'
+        wanted[4] = '         work (5);'
+        self.assertEqual(margins.with_work(text, (4, 6), 1500).split('\n'), wanted)
+
+    def test_greatest(self):
+        """Halving finds the greatest at which nothing fails, and what fails at the next one."""
+        margins = load('margins')
+        for greatest in (1, 2, 999, 1000, 999999):
+            self.assertEqual(margins.margin_of(lambda k: None if k <= greatest else f'over {k}'), (greatest, f'over {greatest + 1}'))
+        self.assertEqual(margins.margin_of(lambda k: None), (1000000, 'limit'))
+        self.assertEqual(margins.margin_of(lambda k: f'over {k}'), (None, 'over 1'))
+
+    @unittest.skipUnless(HAS_PROGRAM, 'there is no program')
+    def test_table(self):
+        """The first thread may work twice as long, as an example of crate law_scaling has it, and the second one 2.75 times."""
+        self.assertEqual(self.table(PAIR), (0, [
+            'thread,statements_of_work,slack_to_deadline,slack_to_period,margin_per_mille,next',
+            'all,,,,1666,U1 b value 22 limit 20 round 2',
+            'a,1,6,6,2000,U1 b value 21 limit 20 round 2',
+            'b,1,11,11,2750,U1 b value 21 limit 20 round 1',
+        ], ''))
+
+    @unittest.skipUnless(HAS_PROGRAM, 'there is no program')
+    def test_over_limits(self):
+        """A design without bounds has no slacks; where the other thread alone is late a thread has no margin."""
+        status, lines, err = self.table(PAIR.replace('work (4)', 'work (40)').replace('= 5;', '= 50;'))
+        self.assertEqual((status, err), (0, ''))
+        self.assertEqual([line.split(',')[:5] for line in lines[2:]], [['a', '1', '', '', 'none'], ['b', '1', '', '', '275']])
+
+    @unittest.skipUnless(HAS_PROGRAM, 'there is no program')
+    def test_refused(self):
+        self.assertEqual(self.table(PAIR.replace('= 4;', '= 3;')), (1, [], 'margins.py: one.design: refused V14 a cost 4 budget 3\n'))
+
+
+class Pictures(unittest.TestCase):
+    """picture_of_design.py"""
+
+    def test_arrows(self):
+        status, out, err = run([sys.executable, os.path.join(TOOLS, 'picture_of_design.py')], DESIGN)
+        self.assertEqual((status, err), (0, ''))
+        self.assertEqual([line.strip() for line in out.splitlines() if '->' in line], [
+            '"by arrivals" -> "alarm" [style=dashed];',
+            '"reader" -> "cell" [label="hold"];',
+            '"reader" -> "alarm" [label="sound", style=dashed];',
+        ])
+
+    def test_boxes(self):
+        picture = load('picture_of_design')
+        _, things = picture.read_design(DESIGN.splitlines())
+        self.assertEqual([(thing.name, thing.kind, [child.name for child in thing.children]) for thing in things], [
+            ('whole', 'ACTIVE', ['store', 'reader', 'alarm']), ('store', 'PROTECTED', ['cell']), ('cell', 'PROTECTED', []),
+            ('reader', 'CYCLIC', []), ('alarm', 'SPORADIC', []),
+        ])
+
+    def test_other_text(self):
+        for given in ('', 'refused S1\n', DESIGN[:300], DESIGN.replace('PERIOD = 10;', 'PERIOD = 10;\n            LIST')):
+            status, out, err = run([sys.executable, os.path.join(TOOLS, 'picture_of_design.py')], given)
+            self.assertEqual((status, out), (1, ''), given)
+            self.assertIn('format', err)
+
+    @unittest.skipUnless(HAS_PROGRAM, f'there is no program {PROGRAM}')
+    def test_examples(self):
+        for name in sorted(os.listdir(os.path.join(TOP, 'examples'))):
+            if name.endswith('.design'):
+                _, text, _ = run([PROGRAM, 'format', os.path.join(TOP, 'examples', name)])
+                status, out, _ = run([sys.executable, os.path.join(TOOLS, 'picture_of_design.py')], text)
+                self.assertEqual((status, out.count('{'), out[-2:]), (0, out.count('}'), '}\n'), name)
+
+
+@unittest.skipUnless(shutil.which('awk'), 'there is no awk')
+class Places(unittest.TestCase):
+    """told_at.sh, over a program that tells one line."""
+
+    def tell(self, line, words):
+        with tempfile.TemporaryDirectory() as room:
+            program = os.path.join(room, 'program')
+            with open(program, 'w') as text:
+                text.write(f"#!/bin/sh\necho made\necho '{line}' >&2\nexit 7\n")
+            os.chmod(program, 0o755)
+            with open(os.path.join(room, 'd.design'), 'w') as text:
+                text.write('DESIGN d IS\n  Object  radio_link IS CYCLIC\n  OBJECT radio IS SPORADIC\n')
+            words = [os.path.join(room, word) if '.' in word else word for word in words]
+            status, out, err = run([os.path.join(TOOLS, 'told_at.sh'), *words], PROGRAM=program)
+            self.assertEqual((status, out), (7, 'made\n'))
+            return err.replace(room + '/', '').rstrip('\n')
+
+    def test_places(self):
+        for line, wanted in (
+            ('refused S1 design line 3 column 14', 'd.design:3:14: error: refused S1'),
+            ('refused L2 arrivals line 2 column 1', 'r.arrivals:2:1: error: refused L2'),
+            ('refused Q2 line 4 radio', 'r.arrivals:4:1: error: refused Q2 radio'),
+            ('refused Q1 line 4', 'r.arrivals:4:1: error: refused Q1'),
+            ('refused Q4 value 2 limit 1', 'r.arrivals: error: refused Q4 value 2 limit 1'),
+            ('refused S3 arrivals', 'r.arrivals: error: refused S3 arrivals'),
+            ('refused V05 radio', 'd.design:3:1: error: refused V05 radio'),
+            ('refused V09 radio_link.op', 'd.design:2:1: error: refused V09 radio_link.op'),
+            ('refused V15 cost radio thread', 'd.design:3:1: error: refused V15 cost radio thread'),
+            ('refused V15 threads 31', 'd.design: error: refused V15 threads 31'),
+            ('refused V11 costs', 'd.design: error: refused V11 costs'),
+            ('refused V01 radio', 'd.design: error: refused V01 radio'),
+            ('refused U1 radio value 9 limit 8 round 2', 'd.design:3:1: error: refused U1 radio value 9 limit 8 round 2'),
+            ('refused S3 text', 'd.design: error: refused S3 text'),
+            ('fault reading d.design', 'fault reading d.design'),
+        ):
+            self.assertEqual(self.tell(line, ['verify', 'd.design', 'r.arrivals']), wanted)
+
+    def test_ada(self):
+        self.assertEqual(self.tell('refused S1 ada line 9 column 2', ['replay', 'a.ada', 'r.arrivals']), 'a.ada:9:2: error: refused S1')
+
+
+class Crates(unittest.TestCase):
+    """above.py and check_rules.py"""
+
+    def test_above(self):
+        above = load('above', SOURCE)
+        below = {'low': [], 'middle': ['low'], 'other': [], 'high': ['middle', 'other']}
+        self.assertEqual(above.all_above(['low'], below), {'low', 'middle', 'high'})
+        self.assertEqual(above.all_above(['high'], below), {'high'})
+
+    def test_seconds(self):
+        above = load('above', SOURCE)
+        with tempfile.TemporaryDirectory() as room:
+            path = os.path.join(room, 'crates.csv')
+            with open(path, 'w') as out:
+                out.write('crate,proof,tests,edits\nlow,3,0,40\nhigh,5,,\n')
+            self.assertEqual(above.read_seconds(path), {'low': 43, 'high': 5})
+
+    def test_every_crate_is_told(self):
+        status, out, _ = run([sys.executable, os.path.join(SOURCE, 'above.py'), 'seq_tree'])
+        self.assertEqual(status, 0)
+        self.assertRegex(out, r'\d+ seq_tree\n')
+        status, _, err = run([sys.executable, os.path.join(SOURCE, 'above.py'), 'nothing'])
+        self.assertEqual((status, err), (1, 'above.py: nothing is no crate of crates.txt\n'))
+
+    def test_decisions(self):
+        with open(os.path.join(TOP, 'docs', 'DECISIONS.md'), encoding='utf-8') as text:
+            entries = re.findall(r'^`([a-z-]+)`: ', text.read(), re.M)
+        self.assertEqual(len(entries), len(set(entries)))
+        with open(os.path.join(TOP, 'docs', 'decisions_map.csv'), encoding='utf-8', newline='') as text:
+            rows = list(csv.DictReader(text))
+        self.assertEqual({row['where'] for row in rows if row['state'] == 'entry'} - set(entries), set())
+        self.assertEqual([row for row in rows if row['state'].startswith(('docstring', 'page to')) and not row['text']], [])
+
+    def test_doors(self):
+        script = os.path.join(SOURCE, 'doors.py')
+        with tempfile.TemporaryDirectory() as room:
+            def put(path, text):
+                os.makedirs(os.path.dirname(os.path.join(room, path)), exist_ok=True)
+                with open(os.path.join(room, path), 'w') as out:
+                    out.write(text)
+            put('low/proofs/Inner.antt', '')
+            put('low/proofs/Shared/Outer.antt', '')
+            put('low/src/lib.rt', '//! - `Outer`: lists.\n')
+            put('high/src/lib.rt', '#[tactic(auto, using(low::proofs::Shared::Outer::rules))]\n')
+            put('high/proofs/Steps.antt', 'use Rattle.low.proofs.Shared.Outer.{lists}\nuse Rattle.high.proofs.Steps.{one}\n')
+            self.assertEqual(run([sys.executable, script, '--closed'], CRATES_OF_DOORS=room)[0], 0)
+            self.assertEqual(run([sys.executable, script, 'low'], CRATES_OF_DOORS=room)[1], 'low: specs 0 of 0; proofs: Outer 1\n')
+            put('low/src/lib.rt', '//! Lists.\nfn outer() {}\n')
+            told = run([sys.executable, script, '--closed'], CRATES_OF_DOORS=room)
+            self.assertEqual(told[:2], (1, "low: its head doesn't name Shared.Outer\n"))
+            put('low/src/lib.rt', '//! - `Outer`: lists.\n')
+            put('high/proofs/Steps.antt', 'use Rattle.low.proofs.Inner.{lists}\n')
+            told = run([sys.executable, script, '--closed'], CRATES_OF_DOORS=room)
+            self.assertEqual(told[:2], (1, "low: proofs/Inner is cited by high, and isn't in proofs/Shared\n"))
+
+    def test_rules(self):
+        rules = load('check_rules', SOURCE)
+        self.assertEqual(list(rules.faults()), [])
+        self.assertTrue(rules.is_there('design_rules.Clashes.clashes'))
+        self.assertFalse(rules.is_there('design_rules.Clashes.clash'))
+        self.assertFalse(rules.is_there('design_rules.Clash'))
+        self.assertFalse(rules.is_there('ods_names::first_clas'))
+        self.assertFalse(rules.is_there('ods_names/src/clash.rt'))
+        self.assertTrue(rules.is_there('docs/RULES.md'))
+        self.assertFalse(rules.is_there('docs/RULE.md'))
+        self.assertIsNone(rules.is_there('out/page/lafomizana.html'))
+        self.assertEqual(list(rules.row_faults(1, '| V01 | names | `nothing.rt` |', set())), ['RULES.md:1: there is no test nothing.rt'])
+        self.assertEqual(list(rules.row_faults(1, '| V01 | names | `arrivals.rt` |', set())), ['RULES.md:1: arrivals.rt has no row with V01'])
+
+    def test_edits_fit(self):
+        """Each line that a wrong body changes stands once in its file, so that none is passed over since its crate changed."""
+        tried, lost = 0, []
+        for crate in sorted(os.listdir(os.path.join(TOP, 'crates'))):
+            for folder in ('must-fail', 'more-edits'):
+                room = os.path.join(TOP, 'crates', crate, folder)
+                for edit in sorted(os.listdir(room)) if os.path.isdir(room) else []:
+                    with open(os.path.join(room, edit)) as said:
+                        lines = [line.rstrip('\n').split(': ', 1) for line in said]
+                    for key, *value in lines:
+                        if key == 'file':
+                            with open(os.path.join(TOP, 'crates', crate, *value)) as source:
+                                text = source.read()
+                        elif key == 'old':
+                            lost += [] if text.count(*value) == 1 else [f'{crate}/{folder}/{edit}']
+                            tried += 1
+        self.assertEqual(lost, [])
+        self.assertGreater(tried, 500)
+
+
+class Pages(unittest.TestCase):
+    """test_docs.py, over a page of its own"""
+
+    PAGE = "text\n\nThe file `a.txt`:\n\n```\none\ntwo\n```\n\n```\n$ cat a.txt\none\n...\n$ echo \\\n  done\n{}\n```\n" \
+        "<!-- not run: it is slow -->\n```\n$ false\nx\n```\n```sh\n$ false\n```\n"
+
+    def try_page(self, answer, *words):
+        with tempfile.TemporaryDirectory() as room:
+            path = os.path.join(room, 'page.md')
+            with open(path, 'w') as text:
+                text.write(self.PAGE.format(answer))
+            status, out, _ = run([sys.executable, os.path.join(SOURCE, 'test_docs.py'), *words, path], PROGRAM='/bin/true')
+            with open(path) as text:
+                return status, out.partition(': ')[2], text.read()
+
+    def test_equal(self):
+        self.assertEqual(self.try_page('done'), (0, '2 commands, 0 differ, 1 files, 2 blocks not run\n', self.PAGE.format('done')))
+
+    def test_other(self):
+        self.assertEqual(self.try_page('gone'), (1, '2 commands, 1 differ, 1 files, 2 blocks not run\n', self.PAGE.format('gone')))
+
+    def test_update(self):
+        self.assertEqual(self.try_page('gone', '--update')[2], self.PAGE.format('done'))
+
+    def test_no_program(self):
+        status, out, err = run([sys.executable, os.path.join(SOURCE, 'test_docs.py'), '/dev/null'], PROGRAM='/nothing')
+        self.assertEqual((status, out), (2, ''))
+        self.assertIn('there is no program /nothing', err)
+
+
+def usage():
+    """The verbs of the usage line, each with its operands."""
+    _, _, line = run([PROGRAM])
+    return [tuple(command.split()) for command in re.fullmatch(r'usage: hrthood (.*)\n', line)[1].split(' | ')]
+
+
+@unittest.skipUnless(HAS_PROGRAM, f'there is no program {PROGRAM}')
+class Usage(unittest.TestCase):
+    """The man page and the completion have the verbs of the usage line."""
+
+    def test_man_page(self):
+        with open(os.path.join(TOP, 'man', 'hrthood.1')) as text:
+            page = text.read()
+        synopsis = page[page.index('.SH SYNOPSIS'):page.index('.SH DESCRIPTION')]
+        found = re.findall(r'^\.B hrthood (\w+)\n\.I (.*)$', synopsis, re.M)
+        self.assertEqual([(verb, *operands.split()) for verb, operands in found], usage())
+        for command in usage():
+            self.assertIn(f'.TP\n.B {command[0]}\n', page)
+
+    def test_completion(self):
+        with open(os.path.join(TOP, 'completion', 'hrthood.bash')) as text:
+            line = re.search(r"^_hrthood_usage='(.*)'$", text.read(), re.M)[1]
+        self.assertEqual([tuple(command.split()) for command in line.split(' | ')], usage())
+
+
+@unittest.skipUnless(shutil.which('bash'), 'there is no bash')
+class Completion(unittest.TestCase):
+    """What the completion offers in a folder with a file of each kind."""
+
+    def offers(self, *words):
+        with tempfile.TemporaryDirectory() as room:
+            for name in ('one.design', 'two.design', 'one.ada', 'one.arrivals', 'other.txt'):
+                open(os.path.join(room, name), 'w').close()
+            typed = ' '.join(f"'{word}'" for word in words)
+            script = (f'. {TOP}/completion/hrthood.bash; COMP_WORDS=({typed}); COMP_CWORD={len(words) - 1}; _hrthood; '
+                      'printf "%s\\n" "${COMPREPLY[@]}"')
+            done = subprocess.run(['bash', '-c', script], cwd=room, capture_output=True, text=True)
+            self.assertEqual(done.stderr, '')
+            return sorted(done.stdout.split())
+
+    def test_offers(self):
+        self.assertEqual(self.offers('hrthood', 'ver'), ['verify'])
+        self.assertIn('check', self.offers('hrthood', ''))
+        self.assertEqual(self.offers('hrthood', 'check', ''), ['one.design', 'two.design'])
+        self.assertEqual(self.offers('hrthood', 'check', 'tw'), ['two.design'])
+        self.assertEqual(self.offers('hrthood', 'replay', ''), ['one.ada'])
+        self.assertEqual(self.offers('hrthood', 'verify', 'one.design', ''), ['one.arrivals'])
+        self.assertEqual(self.offers('hrthood', 'sample', '3'), ['3', '30'])
+        self.assertEqual(self.offers('hrthood', 'check', 'one.design', ''), [])
+
+
+if __name__ == '__main__':
+    unittest.main()

@@ -1,0 +1,90 @@
+#!/usr/bin/env python3
+"""Writes the page, one file that works from a folder and without a network.
+
+    build_page.py MODULE.wasm LAST_LINE OUT.html
+
+MODULE.wasm is what retarget.py makes of the crate `page`, and LAST_LINE the last line of its proof, which the page shows. Everything else is
+taken from web/ and examples/ of this repository. web/tools/make_page.sh does all steps.
+"""
+import base64
+import html
+import json
+import os
+import re
+import sys
+
+TOP = os.path.dirname(os.path.dirname(os.path.dirname(os.path.abspath(__file__))))
+SCRIPTS = ('refusals', 'texts', 'runs', 'traces', 'trace_places', 'chart', 'bounds', 'timeline', 'verbs', 'page')
+# What the page calls an example, and its texts: a design, arrivals and for some a trace.
+EXAMPLES = (
+    ('Mine pump', 'mine_pump.design', 'one_water_alarm.arrivals', 'one_water_alarm.trace'),
+    ('Mine pump, a sensor is blocked', 'mine_pump.design', 'blocked_sensor.arrivals'),
+    ('Flight control', 'flight_control.design', 'flight_control.arrivals'),
+    ('Data handling', 'data_handling.design', 'data_handling.arrivals'),
+    ('Tank, the smallest to change', 'tank.design', 'until_150.arrivals'),
+    ('An object of every kind', 'every_kind.design', 'two_presses.arrivals'),
+    ('A thread that starts another', 'units_of_every_kind.design', 'until_150.arrivals'),
+    ('One cyclic object', 'one_cyclic_object.design', 'until_20.arrivals'),
+    ('Clients and servers in the background', 'logged_control.design', 'until_40.arrivals'),
+    ('Refused: a deadline too short', 'faults/u1.design', 'flight_control.arrivals'),
+    ('Refused: a request too near', 'data_handling.design', 'faults/q3.arrivals'),
+    ('Refused: a trace with two inside one object', 'mine_pump.design', 'one_water_alarm.arrivals', 'faults/t2e.trace'),
+)
+
+
+def text_of(*path):
+    with open(os.path.join(TOP, *path), encoding='utf-8') as text:
+        return text.read()
+
+
+def as_script(value):
+    """The value as JavaScript that may stand in a page's script."""
+    return json.dumps(value).replace('<', '\\u003c')
+
+
+def examples():
+    kinds = ('design', 'arrivals', 'trace')
+    return {name: {kind: text_of('examples', file) for kind, file in zip(kinds, files)} for name, *files in EXAMPLES}
+
+
+def scripts():
+    """The scripts as one. None of them may end the element in which they stand."""
+    whole = '\n'.join(text_of('web', name + '.js') for name in SCRIPTS)
+    if re.search('</script|<!--', whole, re.IGNORECASE):
+        sys.exit('build_page: a script would end its element')
+    return whole
+
+
+def filled(page, parts):
+    """The page with each part in its place. A place stands once, and what is put there is not looked at again."""
+    pieces = re.split(r'@([A-Z]+)@', page)
+    names = pieces[1::2]
+    if sorted(names) != sorted(parts):
+        sys.exit(f'build_page: page.html has places {", ".join(names)}, and not each of {", ".join(parts)} once')
+    pieces[1::2] = [parts[name] for name in names]
+    return ''.join(pieces)
+
+
+def main():
+    if len(sys.argv) != 4:
+        sys.exit(__doc__)
+    module, last_line, out = sys.argv[1:]
+    with open(module, 'rb') as binary:
+        encoded = base64.b64encode(binary.read()).decode()
+    chart = text_of('web', 'chart.css')
+    whole = filled(text_of('web', 'page.html'), {
+        'STYLE': text_of('web', 'page.css') + chart,
+        'HELP': text_of('web', 'help.html'),
+        'VERDICT': html.escape(last_line),
+        'EXAMPLES': as_script(examples()),
+        'CHART': as_script(chart),
+        'WORKER': as_script(text_of('web', 'library_host.js') + text_of('web', 'library_worker.js')),
+        'MODULE': encoded,
+        'SCRIPT': scripts(),
+    })
+    with open(out, 'w', encoding='utf-8') as text:
+        text.write(whole)
+
+
+if __name__ == '__main__':
+    main()

@@ -68,6 +68,14 @@ no_release h = (h.0 (omega arith)).0
 no_request : ChainResponds 200 (By 80 sensor (Release None) ∷ By 109 sensor (End 29) ∷ Horizon 200 ∷ []) 28 sensor (alarm ∷ [])
 no_request = (λ near. tt, tt)
 
+-- a request by another thread, or after the end of the activation, does not belong to the chain
+another_request : ChainResponds 200 (By 80 sensor (Release None) ∷ By 90 (codes "valve") (Request alarm None) ∷ By 102 sensor (End 22) ∷ [])
+    28 sensor (alarm ∷ [])
+another_request = (λ near. (tt, tt), tt)
+
+after_end : ChainResponds 200 (By 80 sensor (Release None) ∷ By 102 sensor (End 22) ∷ By 110 sensor (Request alarm None) ∷ []) 28 sensor (alarm ∷ [])
+after_end = (λ near. tt, tt)
+
 -- response times add up along a chain
 sum : total ((let r : Response = record { thread = sensor; ticks = 23 } in r) ∷ record { thread = alarm; ticks = 29 } ∷ []) ≡ 52
 sum = refl

@@ -1,3 +1,4 @@
+# shellcheck shell=bash
 # What the measures of this folder share; each reads it in with `source`, and by itself it measures nothing.
 #
 # With the path of a program in PROGRAM that one is measured, else this repository's, which is proved and built before the clock starts.
@@ -11,6 +12,7 @@ trap 'rm -rf "$room"' EXIT
 program=${PROGRAM:-$top/crates/hrthood/out/hrthood}
 [ -n "${PROGRAM:-}" ] || "$top/tools/gate/prove_program.sh" >/dev/null
 
+# shellcheck disable=SC2034  # scripts that read this use it
 base=$top/examples/one_cyclic_task.ada
 arrivals=$top/examples/until_20.arrivals
 costs='COSTS ASSIGN = 1; TEST = 1; TURN = 1; CALL = 2; NULL = 1; PUT = 1; FINISH = 1; END COSTS;'

@@ -39,7 +39,10 @@
  * @property {Token|null} costs
  * @property {DesignObject|null} root
  */
-/** @typedef {{ token: Token|null, place: number, wanted: string[], inside: string, open: Token[] }} TextFault */
+/**
+ * @typedef {{ tokens: Token[], token: Token|null, place: number, wanted: string[], inside: string, open: Token[],
+ *   object: DesignObject|null }} TextFault
+ */
 
 /** The words that are no names in a design. */
 export const KEPT = new Set(("end provides requires data operation thread objects implements begin is null if then elsif else for in out loop "
@@ -49,7 +52,7 @@ const ATTRIBUTES = ["period", "offset", "separation", "deadline", "thread_budget
 const CONSTRAINTS = ["aser", "hser", "pser", "paer"];
 const COSTS = ["assign", "test", "turn", "call", "null", "put", "finish"];
 const UNITS = ["us", "ms", "s"];
-const SECTIONS = ["attributes", "provides", "requires", "data", "operation", "thread", "objects", "implements"];
+export const SECTIONS = ["attributes", "provides", "requires", "data", "operation", "thread", "objects", "implements"];
 const COMPARISONS = ["=", "/=", "<", "<=", ">", ">="];
 const STATEMENTS = ["null", "if", "for", "exit", "work", "put"];
 const DEEP = 64;
@@ -71,10 +74,11 @@ const valueOf = (/** @type {Token} */ token) => Number(token.word.replaceAll("_"
 /** What ends the reading: no design goes on with a token. */
 class NoDesign extends Error {}
 
-/** A reader over the tokens, by recursive descent. At each token it gathers what could have stood there. */
-class DesignReader {
-  constructor(/** @type {Token[]} */ tokens) {
+/** A reader over tokens, by recursive descent. At each token it gathers what could have stood there. */
+class TokenReader {
+  constructor(/** @type {Token[]} */ tokens, /** @type {Set<string>} */ kept) {
     this.tokens = tokens;
+    this.kept = kept;
     this.place = 0;
     /** @type {Set<string>} */
     this.wanted = new Set();
@@ -82,12 +86,8 @@ class DesignReader {
     this.inside = ["head"];
     /** @type {Token[]} */
     this.open = [];
-    this.hasUnits = false;
-    this.depth = 0;
     /** @type {DesignObject|null} */
     this.object = null;
-    /** @type {Design|null} */
-    this.design = null;
   }
 
   word() {
@@ -108,7 +108,7 @@ class DesignReader {
   isName() {
     this.wanted.add("a name");
     const word = this.word();
-    return word !== undefined && /^[a-z]/.test(word) && !KEPT.has(word);
+    return word !== undefined && /^[a-z]/.test(word) && !this.kept.has(word);
   }
 
   take(/** @type {boolean} */ isRight) {
@@ -128,11 +128,6 @@ class DesignReader {
     return this.take(this.isName());
   }
 
-  /** The name that an END wants: that of the head. */
-  same(/** @type {Token} */ head, /** @type {string} */ inside) {
-    this.within(inside, () => this.take(this.is(head.word)));
-  }
-
   number() {
     this.wanted.add("a number");
     return this.take(isNumber(this.word()));
@@ -146,6 +141,34 @@ class DesignReader {
     return made;
   }
 
+  /** One or more of a part. @template T */
+  each(/** @type {() => T} */ part, /** @type {() => boolean} */ goesOn) {
+    const made = [part()];
+    while (goesOn()) made.push(part());
+    return made;
+  }
+
+  end() {
+    this.wanted.add("the end of the text");
+    if (this.word() !== undefined) throw new NoDesign();
+  }
+}
+
+/** A reader of designs. */
+class DesignReader extends TokenReader {
+  constructor(/** @type {string} */ text) {
+    super(tokensOf(text), KEPT);
+    this.hasUnits = false;
+    this.depth = 0;
+    /** @type {Design|null} */
+    this.design = null;
+  }
+
+  /** The name that an END wants: that of the head. */
+  same(/** @type {Token} */ head, /** @type {string} */ inside) {
+    this.within(inside, () => this.take(this.is(head.word)));
+  }
+
   /** What is opened by a token and closed at the end of the part. @template T */
   opened(/** @type {Token} */ token, /** @type {() => T} */ part) {
     if (++this.depth > DEEP + 8) throw new NoDesign();
@@ -153,13 +176,6 @@ class DesignReader {
     const made = part();
     this.open.pop();
     this.depth--;
-    return made;
-  }
-
-  /** One or more of a part. @template T */
-  each(/** @type {() => T} */ part, /** @type {() => boolean} */ goesOn) {
-    const made = [part()];
-    while (goesOn()) made.push(part());
     return made;
   }
 
@@ -175,8 +191,7 @@ class DesignReader {
     this.within("end of the design", () => this.words("end"));
     this.same(name, "end of the design");
     this.words(";");
-    this.wanted.add("the end of the text");
-    if (this.word() !== undefined) throw new NoDesign();
+    this.end();
     return this.design;
   }
 
@@ -514,18 +529,64 @@ class DesignReader {
   }
 }
 
-/** The tree of a design, or the first token with which no design goes on. */
-export function readDesign(/** @type {string} */ text) {
-  const reader = new DesignReader(tokensOf(text));
+/** A reader of arrivals. */
+class ArrivalsReader extends TokenReader {
+  constructor(/** @type {string} */ text) {
+    super(tokensOf(text), new Set([...KEPT, "until", "at"]));
+  }
+
+  read() {
+    this.words("until");
+    this.number();
+    this.words(";");
+    while (this.is("work")) this.durations();
+    while (this.is("at")) this.request();
+    this.end();
+    return null;
+  }
+
+  durations() {
+    this.words("work");
+    this.name();
+    this.number();
+    while (this.is(",")) {
+      this.words(",");
+      this.number();
+    }
+    this.words(";");
+  }
+
+  request() {
+    this.words("at");
+    this.number();
+    this.name();
+    if (!this.is(";")) this.number();
+    this.words(";");
+  }
+}
+
+/** What a reader makes of its text, or the first token with which no such text goes on. @template T */
+function readBy(/** @type {TokenReader & { read: () => T }} */ reader) {
   try {
-    return { design: reader.read(), fault: null, reader };
+    return { made: reader.read(), fault: null };
   } catch (stop) {
     if (!(stop instanceof NoDesign)) throw stop;
-    const { tokens, place, wanted, inside, open } = reader;
+    const { tokens, place, wanted, inside, open, object } = reader;
     /** @type {TextFault} */
-    const fault = { token: tokens[place] ?? null, place, wanted: [...wanted], inside: inside[inside.length - 1], open };
-    return { design: null, fault, reader };
+    const fault = { tokens, token: tokens[place] ?? null, place, wanted: [...wanted], inside: inside[inside.length - 1], open, object };
+    return { made: null, fault };
   }
+}
+
+/** The tree of a design, or the first token with which no design goes on. */
+export function readDesign(/** @type {string} */ text) {
+  const { made, fault } = readBy(new DesignReader(text));
+  return { design: made, fault };
+}
+
+/** The first token with which no arrivals go on. */
+export function readArrivals(/** @type {string} */ text) {
+  return readBy(new ArrivalsReader(text));
 }
 
 /** The objects of a design in flattened order, each parent before its children. @returns {DesignObject[]} */
@@ -539,5 +600,3 @@ export function shownWord(/** @type {string} */ word) {
   const isSmall = UNITS.includes(word) || STATEMENTS.includes(word) || /^(then|elsif|else|in|out|loop|when|range|mod|and|or|xor|not|word|if)$/.test(word);
   return `\`${/^\w/.test(word) && !isSmall ? word.toUpperCase() : word}\``;
 }
-
-export { SECTIONS };

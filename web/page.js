@@ -19,6 +19,7 @@ const MOST_KEPT = 1000000; // characters of a trace that the browser keeps
 const MOST_TYPED = 200000; // characters of a trace that are put into its text as if they were typed
 
 const runs = new Runs(WORKER, MODULE);
+const refusals = new Refusals(REFUSALS);
 const run = (words, texts, most) => runs.run(words, texts, most);
 const timeline = new Timeline(at("panel-timeline"), CHART_STYLE);
 const editors = {
@@ -149,7 +150,7 @@ function showRefusal({ err }, texts, before) {
   // Where memory is wanted before the run begins, no line tells it.
   const line = err.trimEnd() || "no memory";
   state.mark = markOf(line, texts);
-  const [head, hint] = plain(line);
+  const [head, hint] = refusals.plain(line, texts);
   tell("bad", [before + head, hint], line, ...goButton(state.mark));
 }
 
@@ -293,19 +294,22 @@ function save(name, text) {
 async function openFile() {
   const [file] = at("file").files;
   const { to } = at("file").dataset;
-  if (file !== undefined) editors[to].set(await file.text());
+  if (file !== undefined) put(to, await file.text());
   at("file").value = "";
   if (to === "trace") return laterTrace();
   state.isOther = true;
   later();
 }
 
+/** Puts a text in the place of another, as if it were typed, so that the browser can take it back. For a very long one that takes too long. */
+function put(kind, text) {
+  if (text.length > MOST_TYPED) editors[kind].set(text);
+  else editors[kind].replace(text);
+}
+
 /** Takes the trace of the page's own run as the one to be judged, to begin with. */
 function takeOwnTrace() {
-  const { text } = state.trace;
-  // A browser takes long to write so much as if it were typed, which could be taken back.
-  if (text.length > MOST_TYPED) editors.trace.set(text);
-  else editors.trace.replace(text);
+  put("trace", state.trace.text);
   laterTrace();
 }
 
@@ -323,8 +327,7 @@ async function format() {
 /** Begins with the design that the help shows. */
 function takeSkeleton() {
   at("how").close();
-  show({ design: at("skeleton").textContent, arrivals: "UNTIL 300;\n" });
-  again();
+  begin({ design: at("skeleton").textContent, arrivals: "UNTIL 300;\n" });
   at("design").focus();
 }
 
@@ -369,8 +372,23 @@ function letterOf({ key, code }) {
   return /^[a-z0-9]$/i.test(key) ? key.toLowerCase() : /^(?:Key|Digit)(.)$/.exec(code)?.[1].toLowerCase() ?? "";
 }
 
+/** Undo and redo reach the text of a tab that isn't chosen too, which is shown meanwhile; where they change it, its tab is chosen. */
+function reachHidden({ ctrlKey, metaKey, key }) {
+  const panel = at("panel-accepts");
+  if (!(ctrlKey || metaKey) || !/^[zy]$/i.test(key) || !panel.hidden) return;
+  const before = at("trace").value;
+  panel.hidden = false;
+  setTimeout(() => {
+    panel.hidden = true;
+    if (at("trace").value === before) return;
+    choose(at("tab-accepts"));
+    at("trace").focus();
+  });
+}
+
 function listenToKeys() {
   document.addEventListener("keydown", (event) => {
+    reachHidden(event);
     // With this key signs are written.
     if (event.getModifierState("AltGraph")) return;
     const key = letterOf(event);
@@ -390,13 +408,20 @@ function show(texts) {
   editors.trace.set(texts.trace ?? "");
 }
 
+/** Begins with other texts in the place of those that are there, which Ctrl and Z bring back, one after the other, the design first. */
+function begin(texts) {
+  state.isOther = true;
+  for (const kind of Object.keys(editors).reverse()) put(kind, texts[kind] ?? "");
+  again();
+}
+
 function listenToExamples() {
   const pick = at("example");
   pick.append(make("option", { value: "" }, "choose\u2026"), ...Object.keys(EXAMPLES).map((name) => make("option", {}, name)));
   pick.addEventListener("change", () => {
     if (EXAMPLES[pick.value] === undefined) return;
-    show(EXAMPLES[pick.value]);
-    again();
+    begin(EXAMPLES[pick.value]);
+    pick.focus();
   });
 }
 

@@ -2,7 +2,7 @@
 // decided here: where nothing is found, the place is that of the object's name.
 "use strict";
 
-import { objectsOf, readDesign, tokensOf } from "./design_text.js";
+import { SECTIONS, objectsOf, readArrivals, readDesign, tokensOf } from "./design_text.js";
 
 /** @typedef {import("./design_text.js").Token} Token */
 /** @typedef {import("./design_text.js").Design} Design */
@@ -485,16 +485,17 @@ function tokenLength(/** @type {string} */ text, /** @type {number} */ index) {
   return /^(\w+|:=|[/<>]=|\.\.|.)/.exec(text.slice(index, index + 70))?.[0].length ?? 1;
 }
 
-/** The reading of a design that ends with a fault at a place, or null where it ends elsewhere. */
-export function faultAt(/** @type {string} */ text, /** @type {number} */ index) {
-  const { fault, reader } = readDesign(text);
-  if (fault === null || (fault.token?.index ?? text.trimEnd().length) < Math.min(index, text.trimEnd().length)) return null;
-  return fault.token !== null && fault.token.index !== index ? null : { ...fault, tokens: reader.tokens, object: reader.object };
+/** The fault of a text that stands at a place, or null where the reading ends elsewhere. */
+export function faultAt(/** @type {string} */ kind, /** @type {string} */ text, /** @type {number} */ index) {
+  const { fault } = kind === "design" ? readDesign(text) : kind === "arrivals" ? readArrivals(text) : { fault: null };
+  if (fault === null) return null;
+  const isThere = fault.token === null ? index >= text.trimEnd().length : fault.token.index === index;
+  return isThere ? fault : null;
 }
 
 /** The notes that a fault of the text has: what may be the cause, and stands before it. @returns {Note[]} */
 function textNotes(/** @type {string} */ text, /** @type {number} */ index) {
-  const fault = faultAt(text, index);
+  const fault = faultAt("design", text, index);
   if (fault === null) return [];
   const { tokens, place, open, wanted, token, object } = fault;
   const opened = open[open.length - 1];
@@ -520,12 +521,10 @@ function endsThere(/** @type {Token|null} */ token, /** @type {Token|undefined} 
   return token === null || before?.word === "end" || ["object", "end", "operation", "thread", "implements"].includes(token.word);
 }
 
-const ORDER = ["attributes", "provides", "requires", "data", "operation", "thread", "objects", "implements"];
-
 /** The first section of an object that is there and is to stand behind another. */
 function sectionBehind(/** @type {DesignObject} */ object, /** @type {string} */ word) {
-  const rank = ORDER.indexOf(word);
-  return rank < 0 ? undefined : [...object.sections].find(([name]) => ORDER.indexOf(name) > rank);
+  const rank = SECTIONS.indexOf(word);
+  return rank < 0 ? undefined : [...object.sections].find(([name]) => SECTIONS.indexOf(name) > rank);
 }
 
 // ---- All lines ----

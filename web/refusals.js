@@ -8,9 +8,9 @@ import { faultAt, foundOf, placeIn } from "./places.js";
 /** @typedef {import("./places.js").Texts} Texts */
 /** @typedef {import("./places.js").Found} Found */
 /** @typedef {{ line: string, says: string, look?: string, do?: string, causes?: string[] }} Entry */
-/** @typedef {{ at: string, before?: string, next?: string, head?: string, wanted?: string, inside?: string, shown?: string, says: string }} Hint */
+/** @typedef {{ at: string, before?: string, next?: string, head?: string, wanted?: string, inside?: string, kind?: string, shown?: string, says: string }} Hint */
 /** @typedef {{ tables: Record<string, Entry[]>, bodies: Record<string, { says: string, do: string }>, hints: Hint[], marks: Hint[],
- *   details: Record<string, string> }} RefusalData */
+ *   details: Record<string, string>, mended: string[] }} RefusalData */
 /** @typedef {{ kind: string, line: number, column: number }} Place */
 /** @typedef {{ code: string, place: Place|null, says: string, more: string[], notes: { place: Place, says: string }[] }} Told */
 
@@ -78,8 +78,9 @@ export class Refusals {
     const fault = this.data.bodies[/\b(B\d)$/.exec(line)?.[1] ?? ""];
     const detail = found?.detail ?? null;
     const general = this.fill(entry.says, values);
+    const isGeneral = detail === null || this.data.mended.includes(detail.key);
     const mend = [detail === null && entry.look !== undefined && fault === undefined ? this.fill(entry.look, values) : "",
-      this.fill(entry.do ?? fault?.do ?? "", values)];
+      isGeneral ? this.fill(entry.do ?? fault?.do ?? "", values) : ""];
     const ofText = this.textWords(line, texts, found);
     const causes = detail === null && entry.causes !== undefined && found === null ? [`It has one of these causes: ${entry.causes.join("; ")}.`] : [];
     if (ofText !== null) return ofText;
@@ -99,18 +100,19 @@ export class Refusals {
         && fits(before, text.slice(Math.max(0, index - 1), index)));
       return { says: mark === undefined ? entry.says : `${entry.says} ${mark.says}`, more: mark === undefined ? [entry.look ?? ""] : [] };
     }
-    const fault = kind === "design" ? faultAt(text, index) : null;
+    const fault = faultAt(kind, text, index);
     if (fault === null) return { says: entry.says, more: [entry.look ?? ""] };
-    const hint = this.hintOf(text, fault);
+    const hint = this.hintOf(kind, text, fault);
     const wants = this.detail({ key: "wants", values: { WANTS: shownWants(fault.wanted) } });
+    if (hint === undefined && fault.wanted.length === 1) return { says: this.detail({ key: "one", values: { WANTS: shownWants(fault.wanted) } }), more: [] };
     return { says: hint?.says ?? entry.says, more: hint === undefined ? [wants, entry.look ?? ""] : [wants] };
   }
 
   /** What is meant most often where such a token stands. */
-  hintOf(/** @type {string} */ text, /** @type {NonNullable<ReturnType<typeof faultAt>>} */ { tokens, place, wanted, inside }) {
+  hintOf(/** @type {string} */ kind, /** @type {string} */ text, /** @type {NonNullable<ReturnType<typeof faultAt>>} */ { tokens, place, wanted, inside }) {
     const word = (/** @type {number} */ at) => tokens[at]?.word ?? "";
     const head = tokensOf(text).slice(0, 4).map((token) => token.word).join(" ");
-    return this.data.hints.find((one) => fits(one.at, word(place)) && fits(one.before, word(place - 1)) && fits(one.next, word(place + 1))
+    return this.data.hints.find((one) => (one.kind ?? "design") === kind && fits(one.at, word(place)) && fits(one.before, word(place - 1)) && fits(one.next, word(place + 1))
       && (one.wanted === undefined || wanted.includes(one.wanted)) && (one.inside === undefined || one.inside.split("|").includes(inside))
       && (one.head === undefined || new RegExp(one.head).test(head)));
   }

@@ -31,13 +31,18 @@ class Editor {
     this.show(null);
   }
 
-  /** Puts another text in the place of this one, which Ctrl and Z take back. */
+  /** Puts another text in the place of this one, which Ctrl and Z take back. A text of a tab that isn't chosen is shown meanwhile, to be written. */
   replace(text) {
+    if (text === this.area.value) return;
+    const panel = this.area.closest("[hidden]");
+    if (panel !== null) panel.hidden = false;
     this.area.focus();
     this.area.select();
-    if (!document.execCommand("insertText", false, text)) this.set(text);
+    const isDone = text === "" ? document.execCommand("delete") : document.execCommand("insertText", false, text);
+    if (!isDone) this.set(text);
     this.area.setSelectionRange(0, 0);
     this.area.scrollTop = 0;
+    if (panel !== null) panel.hidden = true;
   }
 
   rowOf(index) {

@@ -175,7 +175,7 @@ class VerbTab {
 
   /** What is refused, in plain words, with the button that leads to its place. */
   refused(line, given) {
-    const [head, hint] = plain(line);
+    const [head, hint] = refusals.plain(line, given);
     this.mark = markOf(line, given) ?? (given.trace === undefined ? null : markOfTrace(line, given, state.trace?.lines ?? null));
     const why = this.mark?.why ? [make("p", {}, `The program tells the part; the page marks a line of it: ${this.mark.why}.`)] : [];
     const isOther = this.verb === "accepts" && backgroundOf(given.design).length > 0;

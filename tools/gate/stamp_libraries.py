@@ -17,10 +17,14 @@ It can be fooled by a clock that was set back, and by who hands it a file that w
 
 .ci/run calls it behind `rt ci`. Exit status 0 tells that every library of this clone can be used now, 1 that some can't, which is told.
 """
+
+from __future__ import annotations
+
 import functools
 import os
 import shutil
 import sys
+from typing import Any
 
 TOP = os.path.dirname(os.path.dirname(os.path.dirname(os.path.abspath(__file__))))
 sys.path.insert(0, os.path.dirname(os.path.realpath(shutil.which('rt') or sys.exit('stamp_libraries: there is no rt'))))
@@ -32,7 +36,7 @@ rtlib.Crate.stamp = functools.cache(rtlib.Crate.stamp)
 
 
 @functools.cache
-def has_changed(crate, begun):
+def has_changed(crate: Any, begun: int) -> bool:
     """Whether a file of the crate, or a folder of them, is newer than that time, in nanoseconds."""
     places = [os.path.join(TOP, 'crates.txt')]
     for part in PARTS:
@@ -41,12 +45,12 @@ def has_changed(crate, begun):
     return any(max(told.st_mtime_ns, told.st_ctime_ns) > begun for told in map(os.lstat, places))
 
 
-def is_made_since(crate, begun):
+def is_made_since(crate: Any, begun: int) -> bool:
     """Whether the library is there and was made since that time."""
-    return os.path.isfile(os.path.join(crate.rlib, 'format')) and os.stat(crate.rlib).st_mtime_ns >= begun
+    return os.path.isfile(os.path.join(crate.rlib, 'format')) and bool(os.stat(crate.rlib).st_mtime_ns >= begun)
 
 
-def main():
+def main() -> int:
     if len(sys.argv) != 2:
         sys.exit(__doc__)
     begun = os.stat(sys.argv[1]).st_mtime_ns

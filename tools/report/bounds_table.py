@@ -11,22 +11,30 @@ priority takes in that time; which section blocks is not told by those lines.
 It claims no proof: the bounds are those of the program, and what is reckoned here is arithmetic on them. Where a line is none that analyse
 writes, or a response is not the sum of its parts, it says so and ends with status 1.
 """
+
+from __future__ import annotations
+
 import re
 import sys
 from fractions import Fraction
+from typing import Any, Dict, Iterable, Iterator, List, Tuple
 
 NUMBERS = ('priority', 'period', 'deadline', 'jitter', 'cost', 'blocking', 'response')
 THREAD = re.compile(r'thread (\w+) ' + ' '.join(rf'{word} (\d+)' for word in NUMBERS))
 CEILING = re.compile(r'ceiling (\w+) (\d+)')
+
+Thread = Dict[str, Any]     # a thread's name and its numbers
+Ceilings = List[Tuple[str, int]]
 
 
 class Unreadable(Exception):
     """A line that analyse doesn't write."""
 
 
-def read_lines(lines):
+def read_lines(lines: Iterable[str]) -> tuple[list[Thread], Ceilings]:
     """The threads, each as a dictionary of its name and numbers, and the ceilings as pairs."""
-    threads, ceilings = [], []
+    threads: list[Thread] = []
+    ceilings: Ceilings = []
     for number, line in enumerate(lines, 1):
         thread = THREAD.fullmatch(line.rstrip('\n'))
         ceiling = CEILING.fullmatch(line.rstrip('\n'))
@@ -41,35 +49,35 @@ def read_lines(lines):
     return threads, ceilings
 
 
-def slack(thread):
+def slack(thread: Thread) -> int:
     """The ticks between the response and the deadline."""
-    return thread['deadline'] - thread['response']
+    return int(thread['deadline'] - thread['response'])
 
 
-def utilisation(thread):
+def utilisation(thread: Thread) -> Fraction:
     """The part of the processor that the thread takes at most."""
     return Fraction(thread['cost'], thread['period'])
 
 
-def percent(part):
+def percent(part: Fraction) -> str:
     """A part as a percentage with two digits, rounded up, so that it is never told as less."""
     hundredths = -(-part * 10000 // 1)
     return f'{hundredths // 100}.{hundredths % 100:02} %'
 
 
-def parts_of(thread, threads):
+def parts_of(thread: Thread, threads: list[Thread]) -> list[tuple[Thread, int]]:
     """The threads of greater priority, each with how often it is released within the response and its jitter."""
     above = [other for other in threads if other['priority'] > thread['priority']]
     return [(other, -(-(thread['response'] + other['jitter']) // other['period'])) for other in above]
 
 
-def is_sum(thread, threads):
+def is_sum(thread: Thread, threads: list[Thread]) -> bool:
     """Whether the response is the sum of its parts, as the response equations say."""
     taken = sum(times * other['cost'] for other, times in parts_of(thread, threads))
-    return thread['response'] == thread['cost'] + thread['blocking'] + taken
+    return bool(thread['response'] == thread['cost'] + thread['blocking'] + taken)
 
 
-def markdown(threads, ceilings):
+def markdown(threads: list[Thread], ceilings: Ceilings) -> Iterator[str]:
     """The lines of the table."""
     columns = ['thread', *NUMBERS, 'slack', 'utilisation']
     yield '| ' + ' | '.join(columns) + ' |'
@@ -79,13 +87,13 @@ def markdown(threads, ceilings):
         yield '| ' + ' | '.join(cells) + ' |'
     least = min(threads, key=slack)
     yield ''
-    yield f'Utilisation {percent(sum(map(utilisation, threads)))}; the least slack is {slack(least)} ticks, of {least["name"]}.'
+    yield f'Utilisation {percent(sum(map(utilisation, threads), Fraction(0)))}; the least slack is {slack(least)} ticks, of {least["name"]}.'
     if ceilings:
         yield ''
         yield 'Ceilings: ' + ', '.join(f'{name} {ceiling}' for name, ceiling in ceilings) + '.'
 
 
-def csv(threads):
+def csv(threads: list[Thread]) -> Iterator[str]:
     """The lines of comma-separated values; utilisation in parts of a million, rounded up."""
     yield ','.join(['thread', *NUMBERS, 'slack', 'utilisation_ppm'])
     for thread in threads:
@@ -93,7 +101,7 @@ def csv(threads):
         yield ','.join([thread['name'], *(str(thread[word]) for word in NUMBERS), str(slack(thread)), str(parts)])
 
 
-def why(threads):
+def why(threads: list[Thread]) -> Iterator[str]:
     """Of what each response is made, a line a thread."""
     for thread in threads:
         sums = [f'cost {thread["cost"]}', f'blocking {thread["blocking"]}']
@@ -101,7 +109,7 @@ def why(threads):
         yield f'{thread["name"]} {thread["response"]} = ' + ' + '.join(sums)
 
 
-def main():
+def main() -> None:
     words = sys.argv[1:]
     if words not in ([], ['--csv'], ['--why']):
         sys.exit(__doc__)

@@ -15,10 +15,14 @@ Times are ticks. `verify` writes the Ada text too, which tells priorities, ceili
 text stands in the file of --text. Who runs is not told by a trace: it follows, as `traces.py` says, but for a gap of a few ticks before the
 end, which is hatched white. What is drawn is only as good as these scripts, which are tested and not proved.
 """
+
+from __future__ import annotations
+
 import argparse
 import os
 import sys
 from html import escape
+from typing import Any, Callable, Iterator
 
 sys.dont_write_bytecode = True
 sys.path.insert(0, os.path.dirname(os.path.realpath(__file__)))
@@ -49,45 +53,45 @@ PATTERNS = """<defs>
 class Svg:
     """The elements of a picture, in the order in which they are drawn."""
 
-    def __init__(self, width):
+    def __init__(self, width: int) -> None:
         self.width = width
-        self.elements = []
+        self.elements: list[str] = []
 
-    def add(self, name, title=None, **attributes):
+    def add(self, name: str, title: str | None = None, **attributes: Any) -> None:
         """An element; the attribute `fill_opacity` is fill-opacity, and `class_` is class."""
         words = ''.join(' %s="%s"' % (key.rstrip('_').replace('_', '-'), '%.1f' % value if isinstance(value, float) else value)
                         for key, value in attributes.items())
         end = '/>' if title is None else '><title>%s</title></%s>' % (escape(title), name)
         self.elements.append('<%s%s%s' % (name, words, end))
 
-    def text(self, x, y, text, kind=''):
+    def text(self, x: float, y: float, text: str, kind: str = '') -> None:
         self.elements.append('<text x="%.1f" y="%.1f"%s>%s</text>' % (x, y, ' class="%s"' % kind if kind else '', escape(text)))
 
-    def box(self, x, y, width, height, fill, title=None, **attributes):
+    def box(self, x: float, y: float, width: float, height: int, fill: str, title: str | None = None, **attributes: Any) -> None:
         self.add('rect', title, x=float(x), y=float(y), width=float(max(0.6, width)), height=float(height), fill=fill, **attributes)
 
-    def line(self, path, title=None, **attributes):
+    def line(self, path: str, title: str | None = None, **attributes: Any) -> None:
         self.add('path', title, d=path, fill='none', **attributes)
 
-    def arrow_up(self, x, base, title, is_hollow):
+    def arrow_up(self, x: float, base: float, title: str, is_hollow: bool) -> None:
         self.line('M%.1f %.1fv-28' % (x, base), title, stroke=INK, stroke_width=1.4)
         self.add('path', title, d='M%.1f %.1fl-3.5 7h7z' % (x, base - 33), fill='#fff' if is_hollow else INK, stroke=INK)
 
-    def arrow_down(self, x, base, title):
+    def arrow_down(self, x: float, base: float, title: str) -> None:
         self.line('M%.1f %.1fv28' % (x, base - 33), title, stroke=RED, stroke_width=1.4)
         self.add('path', title, d='M%.1f %.1fl-3.5 -7h7z' % (x, base), fill=RED)
 
-    def diamond(self, x, y, title=None):
+    def diamond(self, x: float, y: float, title: str | None = None) -> None:
         self.add('path', title, d='M%.1f %.1fl4 4l-4 4l-4-4z' % (x, y), fill='#fff', stroke=INK)
 
-    def whole(self, height, title):
+    def whole(self, height: int, title: str) -> str:
         head = '<svg xmlns="http://www.w3.org/2000/svg" width="%d" height="%d" viewBox="0 0 %d %d" role="img">\n<title>%s</title>\n' % (
             self.width, height, self.width, height, escape(title))
         ground = '<rect width="100%" height="100%" fill="#fff"/>\n'
         return '%s<style>%s</style>\n%s%s%s\n</svg>\n' % (head, STYLE, PATTERNS, ground, '\n'.join(self.elements))
 
 
-def grid_step(least):
+def grid_step(least: float) -> int:
     """The first of 1, 2, 5, 10, 20, .. that is at least so much."""
     power = 1
     while True:
@@ -97,7 +101,7 @@ def grid_step(least):
         power *= 10
 
 
-def short(name, most):
+def short(name: str, most: int) -> str:
     return name if len(name) <= most else name[:most - 2] + '..'
 
 
@@ -106,7 +110,7 @@ class Panel:
     LEFT, RIGHT = 196, 22           # pixels beside the lanes
     LANE, OBJECT_LANE = 58, 18      # pixels of height
 
-    def __init__(self, picture, start, end, step, top):
+    def __init__(self, picture: Any, start: Any, end: Any, step: Any, top: Any) -> None:
         self.svg, self.run, self.program = picture.svg, picture.run, picture.run.program
         self.picture, self.start, self.end, self.top = picture, start, end, top
         self.scale = (self.svg.width - self.LEFT - self.RIGHT) / step
@@ -115,18 +119,18 @@ class Panel:
         self.object_base = {name: objects_top + self.OBJECT_LANE * (i + 1) - 3 for i, name in enumerate(picture.objects)}
         self.bottom = objects_top + self.OBJECT_LANE * len(picture.objects)
 
-    def x(self, time):
-        return self.LEFT + (min(max(time, self.start), self.end) - self.start) * self.scale
+    def x(self, time: int) -> float:
+        return float(self.LEFT + (min(max(time, self.start), self.end) - self.start) * self.scale)
 
-    def is_here(self, time):
-        return self.start <= time <= self.end
+    def is_here(self, time: int) -> bool:
+        return bool(self.start <= time <= self.end)
 
-    def span(self, thing):
+    def span(self, thing: traces.Piece | traces.Wait) -> tuple[float, float] | None:
         """The left end and the width of what stands in the panel, or None."""
         start, end = max(thing.start, self.start), min(thing.end, self.end)
         return (self.x(start), self.x(end) - self.x(start)) if start < end else None
 
-    def draw(self):
+    def draw(self) -> None:
         self.draw_grid()
         self.draw_names()
         self.draw_bounds()
@@ -139,13 +143,13 @@ class Panel:
         self.draw_puts()
         self.draw_end_of_trace()
 
-    def draw_grid(self):
+    def draw_grid(self) -> None:
         step = grid_step(50 / self.scale)
         for time in range(self.start + -self.start % step, self.end + 1, step):
             self.svg.line('M%.1f %dV%d' % (self.x(time), self.top, self.bottom), class_='grid')
             self.svg.text(self.x(time), self.top - 5, str(time), 'small middle')
 
-    def draw_names(self):
+    def draw_names(self) -> None:
         for task in self.picture.tasks:
             y = self.base[task.name]
             self.svg.line('M%d %.1fH%.1f' % (self.LEFT, y, self.x(self.end)), class_='base')
@@ -161,7 +165,7 @@ class Panel:
             self.svg.text(14, y - 3, what, 'small')
             self.svg.text(self.LEFT - 8, y - 3, 'ceiling %d' % self.program.ceilings[name], 'small right')
 
-    def draw_bounds(self):
+    def draw_bounds(self) -> None:
         for a in self.run.activations:
             bound = a.task.bound
             if bound is None or a.release >= self.end or a.release + bound <= self.start:
@@ -173,7 +177,7 @@ class Panel:
             if self.is_here(limit):
                 self.svg.line('M%.1f %.1fv-28' % (self.x(limit), y), title, stroke=GREEN if is_kept else RED, stroke_width=1.6)
 
-    def draw_waits(self):
+    def draw_waits(self) -> None:
         for wait in self.picture.waits:
             span = self.span(wait)
             if span is None:
@@ -182,14 +186,14 @@ class Panel:
             height, fill = (9, 'url(#blocked)') if wait.is_blocked else (4, '#a3afbd')
             self.svg.box(span[0], self.base[wait.task] - height, span[1], height, fill, title)
 
-    def draw_sections(self):
+    def draw_sections(self) -> None:
         """A task is inside, whoever runs: pale. While it runs itself, `draw_parts` paints it over."""
         for name, task, start, end in self.run.sections:
             if name in self.object_base and start < self.end and end > self.start:
                 self.svg.box(self.x(start), self.object_base[name] - 9, self.x(end) - self.x(start), 6, self.picture.colours[name],
                              '%d to %d: %s is inside %s' % (start, end, task, name), fill_opacity='0.4')
 
-    def draw_parts(self):
+    def draw_parts(self) -> None:
         for piece in self.picture.parts:
             span = self.span(piece)
             if span is None:
@@ -206,14 +210,14 @@ class Panel:
             if piece.object:
                 self.draw_piece(span, self.object_base[piece.object], 12, fill, title, piece.task, piece.rivals)
 
-    def draw_piece(self, span, base, height, fill, title, words, rivals):
+    def draw_piece(self, span: tuple[float, float], base: int, height: int, fill: str, title: str, words: str, rivals: tuple[Any, ...]) -> None:
         self.svg.box(span[0], base - height, span[1], height, fill, title, stroke='#fff', stroke_width=0.5)
         if rivals:
             self.svg.box(span[0], base - height, span[1], height, 'url(#doubt)', title)
         if words and span[1] > 6.4 * len(words) + 4:
             self.svg.text(span[0] + span[1] / 2, base - height / 2 + 3.5, words, 'inside middle')
 
-    def draw_requests(self):
+    def draw_requests(self) -> None:
         """A line from the task to the lane of the one that it requests."""
         for event in self.run.events:
             if event.kind == 'request' and self.is_here(event.time):
@@ -223,7 +227,7 @@ class Panel:
                 self.svg.line(path, event.line(), stroke=VIOLET, stroke_dasharray='3 2', stroke_width=1.4)
                 self.svg.add('circle', event.line(), cx=self.x(event.time), cy=float(here - 23), r=2.4, fill=VIOLET)
 
-    def draw_deadlines_and_releases(self):
+    def draw_deadlines_and_releases(self) -> None:
         for a in self.run.activations:
             y, deadline = self.base[a.task.name], a.task.deadline
             if deadline is not None and self.is_here(a.release + deadline):
@@ -234,8 +238,8 @@ class Panel:
                 title = '%d release %s%s' % (a.release, a.task.name, '' if a.value is None else ' %d' % a.value)
                 self.svg.arrow_up(self.x(a.release), self.base[a.task.name], title, a.is_arrival)
 
-    def draw_ends(self):
-        written = {}                # name of a task to where its last response time stands
+    def draw_ends(self) -> None:
+        written: dict[str, float] = {}      # name of a task to where its last response time stands
         for a in self.run.activations:
             if a.end is None or not self.is_here(a.end):
                 continue
@@ -247,8 +251,8 @@ class Panel:
                 self.svg.text(x, y + 12, str(a.response()), 'small middle')
                 written[a.task.name] = x
 
-    def draw_puts(self):
-        written = {}
+    def draw_puts(self) -> None:
+        written: dict[str, float] = {}
         for event in self.run.events:
             if event.kind != 'put' or not self.is_here(event.time):
                 continue
@@ -258,7 +262,7 @@ class Panel:
                 self.svg.text(x + 6, y + 8, value, 'small')
                 written[event.task] = x
 
-    def draw_end_of_trace(self):
+    def draw_end_of_trace(self) -> None:
         stop, horizon = self.run.stop, self.run.horizon
         if horizon is not None and self.is_here(horizon):
             self.svg.line('M%.1f %dV%d' % (self.x(horizon), self.top, self.bottom), 'horizon', stroke=INK, stroke_width=1.5)
@@ -273,10 +277,10 @@ class Panel:
 class Picture:
     """A run: a head, a legend, panels of `fold` ticks one below the other, and a table of the whole trace."""
 
-    def __init__(self, run, width, fold, title):
+    def __init__(self, run: traces.Run, width: int, fold: int | None, title: str) -> None:
         self.run, self.fold, self.title = run, fold or run.end - run.start, title
         self.svg = Svg(width)
-        self.tasks = sorted(run.program.tasks.values(), key=lambda task: -task.priority)
+        self.tasks = sorted(run.program.tasks.values(), key=lambda task: -int(task.priority))
         self.parts, self.waits = list(run.parts()), list(run.waits())
         used = {piece.object for piece in self.parts} | {
             name for name, _, start, end in run.sections if start < run.end and end > run.start}
@@ -286,7 +290,7 @@ class Picture:
         self.colours = {name: OBJECT_COLOURS[i % len(OBJECT_COLOURS)] for i, name in enumerate(objects)}
         self.y = 0
 
-    def draw(self):
+    def draw(self) -> str:
         self.draw_head()
         self.draw_legend()
         for start in range(self.run.start, self.run.end, self.fold):
@@ -296,21 +300,20 @@ class Picture:
         self.draw_table()
         return self.svg.whole(self.y + 8, self.title)
 
-    def draw_head(self):
+    def draw_head(self) -> None:
         run = self.run
         length, busy = run.end - run.start, sum(piece.end - piece.start for piece in self.parts)
         self.svg.text(14, 26, self.title, 'title')
         self.svg.text(14, 43, 'ticks %d to %d of %d, processor busy for %d of %d' % (run.start, run.end, run.last, busy, length), 'small')
         self.y = 56
 
-    def legend_items(self):
+    def legend_items(self) -> Iterator[tuple[int, str, Callable[[float, float], Any]]]:
         """Pairs of a width and words, each with what draws its mark at a place."""
         svg = self.svg
         yield 8, 'release', lambda x, y: svg.arrow_up(x + 4, y + 8, 'release', False)
         yield 8, 'release by a request from outside', lambda x, y: svg.arrow_up(x + 4, y + 8, 'release', True)
         yield 8, 'deadline', lambda x, y: svg.arrow_down(x + 4, y + 8, 'deadline')
-        yield 20, 'release to bound', lambda x, y: (svg.box(x, y - 10, 20, 18, '#e4f1e0'),
-                                                    svg.line('M%.1f %.1fv-18' % (x + 20, y + 8), stroke=GREEN, stroke_width=1.6))
+        yield 20, 'release to bound', self.draw_bound
         yield 20, 'runs', lambda x, y: svg.box(x, y - 4, 20, 12, RUNNING)
         yield 20, 'runs inside an object, at its ceiling', lambda x, y: svg.box(x, y - 10, 20, 18, OBJECT_COLOURS[0])
         yield 20, 'ready, preempted', lambda x, y: svg.box(x, y + 4, 20, 4, '#a3afbd')
@@ -319,9 +322,17 @@ class Picture:
         yield 8, 'put', lambda x, y: svg.diamond(x + 4, y)
         yield 8, 'request', lambda x, y: svg.line('M%.1f %.1fv22' % (x + 4, y - 12), stroke=VIOLET, stroke_dasharray='3 2', stroke_width=1.4)
         if any(piece.rivals for piece in self.parts):
-            yield 20, 'in doubt, see its title', lambda x, y: (svg.box(x, y - 4, 20, 12, RUNNING), svg.box(x, y - 4, 20, 12, 'url(#doubt)'))
+            yield 20, 'in doubt, see its title', self.draw_doubt
 
-    def draw_legend(self):
+    def draw_bound(self, x: float, y: float) -> None:
+        self.svg.box(x, y - 10, 20, 18, '#e4f1e0')
+        self.svg.line('M%.1f %.1fv-18' % (x + 20, y + 8), stroke=GREEN, stroke_width=1.6)
+
+    def draw_doubt(self, x: float, y: float) -> None:
+        self.svg.box(x, y - 4, 20, 12, RUNNING)
+        self.svg.box(x, y - 4, 20, 12, 'url(#doubt)')
+
+    def draw_legend(self) -> None:
         x, y = 14.0, self.y + 24
         for width, words, draw in self.legend_items():
             whole = width + 6 + 5.8 * len(words) + 16
@@ -332,23 +343,24 @@ class Picture:
             x += whole
         self.y = y + 12
 
-    def columns(self):
+    def columns(self) -> list[tuple[str, Callable[..., Any]]]:
         """Heads and what stands below them, of the columns in which something stands."""
         totals = self.run.totals
-        columns = [('task', lambda t: t.name), ('kind', lambda t: t.kind()), ('priority', lambda t: t.priority),
-                   ('period', lambda t: t.period), ('deadline', lambda t: t.deadline), ('jitter', lambda t: t.jitter),
-                   ('cost', lambda t: t.cost), ('blocking', lambda t: t.blocking), ('bound', lambda t: t.bound),
-                   ('greatest response', lambda t: totals[t.name].greatest), ('releases', lambda t: totals[t.name].releases),
-                   ('ends', lambda t: totals[t.name].ends),
-                   (LATE, lambda t: None if t.bound is None else totals[t.name].over_bound)]
+        columns: list[tuple[str, Callable[[Any], Any]]] = [
+            ('task', lambda t: t.name), ('kind', lambda t: t.kind()), ('priority', lambda t: t.priority),
+            ('period', lambda t: t.period), ('deadline', lambda t: t.deadline), ('jitter', lambda t: t.jitter),
+            ('cost', lambda t: t.cost), ('blocking', lambda t: t.blocking), ('bound', lambda t: t.bound),
+            ('greatest response', lambda t: totals[t.name].greatest), ('releases', lambda t: totals[t.name].releases),
+            ('ends', lambda t: totals[t.name].ends),
+            (LATE, lambda t: None if t.bound is None else totals[t.name].over_bound)]
         return [(head, value) for head, value in columns if any(value(task) is not None for task in self.tasks)]
 
-    def draw_table(self):
+    def draw_table(self) -> None:
         run = self.run
         self.y += 12
         self.svg.text(14, self.y, 'Whole trace: %d lines, up to tick %d' % (run.lines, run.last), 'name')
         self.y += 30
-        left, top, bottom = 14, self.y, self.y + 16 * len(self.tasks)
+        left, top, bottom = 14.0, self.y, self.y + 16 * len(self.tasks)
         for head, value in self.columns():
             cells = ['-' if value(task) is None else str(value(task)) for task in self.tasks]
             is_text = head in ('task', 'kind')
@@ -365,7 +377,7 @@ class Picture:
         self.y = bottom + 22
 
 
-def listed(run):
+def listed(run: traces.Run) -> str:
     """Who runs when, as lines `FROM TO TASK`, with `in OBJECT` inside one, `for OBJECT` while a request is stored, and `or TASK` in doubt."""
     out = []
     for piece in run.parts():
@@ -376,7 +388,7 @@ def listed(run):
     return ''.join(out)
 
 
-def given_words():
+def given_words() -> argparse.Namespace:
     parser = argparse.ArgumentParser(description='Draws the trace of a run as an SVG picture.')
     parser.add_argument('trace', nargs='?', default='-', help='what `verify` or `replay` writes; standard input where it is missing or -')
     parser.add_argument('--text', help='the Ada text, beside a trace of `replay`')
@@ -390,13 +402,13 @@ def given_words():
     return parser.parse_args()
 
 
-def text_of(path):
+def text_of(path: str) -> str:
     """The bytes of a file, or of standard input, as characters."""
     with (sys.stdin.buffer if path == '-' else open(path, 'rb')) as stream:
         return stream.read().decode('latin-1')
 
 
-def drawn(words):
+def drawn(words: argparse.Namespace) -> str:
     """What is written for these words."""
     end = words.start + DEFAULT_WINDOW if words.end is None else words.end
     if words.start < 0 or end <= words.start:
@@ -419,7 +431,7 @@ def drawn(words):
     return Picture(run, words.width, words.fold, words.title or 'Run of %s' % program.design).draw()
 
 
-def main():
+def main() -> None:
     try:
         sys.stdout.write(drawn(given_words()))
     except (Fault, OSError) as fault:

@@ -16,11 +16,16 @@ that halving finds the greatest (`holding_alone_is_kept` of `law_scaling`); and 
 object's `work` so scaled (`flat_designs_scale_alone`). Not proved: this script, which writes the changed designs, asks `analyse` about each, and
 halves. `scale_alone` of crate `scaling` does the same by a proved function, and no verb calls it.
 """
+
+from __future__ import annotations
+
 import os
 import re
 import subprocess
 import sys
 import tempfile
+from functools import partial
+from typing import Any, Callable, Iterable, Iterator
 
 TOP = os.path.dirname(os.path.dirname(os.path.dirname(os.path.abspath(__file__))))
 MOST_TICKS = 1000000000
@@ -38,19 +43,19 @@ class Refused(Exception):
 class Program:
     """The program, on designs in a folder of its own."""
 
-    def __init__(self, path, room):
+    def __init__(self, path: str, room: str) -> None:
         self.path = path
         self.design = os.path.join(room, 'changed.design')
         self.calls = 0
 
-    def run(self, verb, file):
+    def run(self, verb: str, file: str) -> tuple[int, str, str]:
         """The status of a verb on a file, what it writes, and the line of its refusal."""
         self.calls += 1
         done = subprocess.run([self.path, verb, file], capture_output=True, text=True, stdin=subprocess.DEVNULL)
         lines = [line for line in done.stderr.splitlines() if not line.startswith('hrthood: ')]
         return done.returncode, done.stdout, lines[-1] if lines else ''
 
-    def failure(self, text):
+    def failure(self, text: str) -> str | None:
         """What fails of a design, as the second line of `scale` would tell it; None where it holds."""
         with open(self.design, 'w', encoding='utf-8') as file:
             file.write(text)
@@ -64,14 +69,16 @@ class Program:
         raise Refused(line)
 
 
-def scaled_ticks(per_mille, ticks):
+def scaled_ticks(per_mille: int, ticks: int) -> int:
     """Ticks at so many per mille, rounded up, at most 1,000,000,000."""
     return min(MOST_TICKS, -(-ticks * per_mille // 1000))
 
 
-def threads_of(text):
+def threads_of(text: str) -> list[tuple[str, int, int]]:
     """The objects with threads of a formatted design, each with the lines from the first of its thread's body to the one behind the last."""
-    objects, threads, body = [], [], None
+    objects: list[str] = []
+    threads: list[tuple[str, int, int]] = []
+    body = 0
     for number, line in enumerate(text.split('\n')):
         words = line.split()
         if words[:1] == ['OBJECT']:
@@ -85,7 +92,7 @@ def threads_of(text):
     return threads
 
 
-def with_work(text, body, per_mille):
+def with_work(text: str, body: tuple[int, int], per_mille: int) -> str:
     """A formatted design with the `work` in these lines at so many per mille, and each THREAD_BUDGET the greatest."""
     lines = BUDGET.sub(f'THREAD_BUDGET = {MOST_TICKS};', text).split('\n')
     first, end = body
@@ -94,7 +101,7 @@ def with_work(text, body, per_mille):
     return '\n'.join(lines)
 
 
-def margin_of(failure):
+def margin_of(failure: Callable[[int], str | None]) -> tuple[int | None, str]:
     """The greatest per mille at which nothing fails, None where something does at one, and what fails at the next, or there."""
     at_most = failure(MOST_PER_MILLE)
     if at_most is None:
@@ -113,7 +120,7 @@ def margin_of(failure):
     return low, fails
 
 
-def slacks_of(program, file):
+def slacks_of(program: Program, file: str) -> dict[str, tuple[int, int]]:
     """The two slacks of each thread, where the design has bounds."""
     status, out, line = program.run('analyse', file)
     if status != 0:
@@ -125,7 +132,7 @@ def slacks_of(program, file):
     return {name: (one['deadline'] - one['response'], one['period'] - one['jitter'] - one['response']) for name, one in numbers.items()}
 
 
-def whole_margin(program, file):
+def whole_margin(program: Program, file: str) -> tuple[int | None, str]:
     """The margin of all `work`, as `scale` tells it."""
     status, out, line = program.run('scale', file)
     if status == 1 and line.startswith(('refused U1 ', 'refused U2 ')):
@@ -136,7 +143,12 @@ def whole_margin(program, file):
     return int(first[len('scale '):]), second[len('next '):]
 
 
-def rows_of(program, file):
+def failure_of(program: Program, text: str, body: tuple[int, int], per_mille: int) -> str | None:
+    """What fails with the `work` of one body at so many per mille."""
+    return program.failure(with_work(text, body, per_mille))
+
+
+def rows_of(program: Program, file: str) -> Iterator[tuple[Any, ...]]:
     """A row for all `work`, and one for each thread, in the order of the design."""
     slacks = slacks_of(program, file)
     status, text, line = program.run('format', file)
@@ -145,11 +157,11 @@ def rows_of(program, file):
     yield ('all', '', '', '', *whole_margin(program, file))
     for name, first, end in threads_of(text):
         ticks = [int(found) for found in WORK.findall('\n'.join(text.split('\n')[first:end]))]
-        margin = margin_of(lambda per_mille: program.failure(with_work(text, (first, end), per_mille)))
+        margin = margin_of(partial(failure_of, program, text, (first, end)))
         yield (name, len(ticks), *slacks.get(name, ('', '')), *margin)
 
 
-def written(rows, is_csv):
+def written(rows: Iterable[tuple[Any, ...]], is_csv: bool) -> list[str]:
     """The lines of the table."""
     heads = ('thread', 'statements of work', 'slack to deadline', 'slack to period', 'margin per mille', 'next')
     told = [[str(cell if cell is not None else 'none') for cell in row] for row in rows]
@@ -158,7 +170,7 @@ def written(rows, is_csv):
     return ['| ' + ' | '.join(heads) + ' |', '|---' + '|---:' * 4 + '|---|', *('| ' + ' | '.join(row) + ' |' for row in told)]
 
 
-def main():
+def main() -> None:
     words = sys.argv[1:]
     is_csv = words[:1] == ['--csv']
     files = words[1:] if is_csv else words

@@ -10,6 +10,9 @@ with ARRIVAL_JITTER. Calls that no REQUIRES lists, or that lead nowhere, are lef
 
 It claims no proof, and reads only what `format` writes. Where the text is another, it says so and ends with status 1.
 """
+
+from __future__ import annotations
+
 import re
 import sys
 
@@ -21,9 +24,13 @@ class Unreadable(Exception):
 class Thing:
     """An object: its name, kind, children, constraints of operations, links, required operations, calls, and whether it is requested from outside."""
 
-    def __init__(self, name, kind, parent):
+    def __init__(self, name: str, kind: str, parent: Thing | None) -> None:
         self.name, self.kind, self.parent = name, kind, parent
-        self.children, self.constraints, self.links, self.required, self.calls = [], {}, {}, [], []
+        self.children: list[Thing] = []
+        self.constraints: dict[str, str] = {}
+        self.links: dict[str, tuple[str, str]] = {}
+        self.required: list[tuple[str, str]] = []
+        self.calls: list[tuple[str, str]] = []
         self.is_external = False
 
 
@@ -38,7 +45,7 @@ DATUM = re.compile(r'\w+ : word := \d+;')
 SECTIONS = ('ATTRIBUTES', 'PROVIDES', 'REQUIRES', 'DATA', 'OBJECTS', 'IMPLEMENTS')
 
 
-def read_item(thing, section, line, number):
+def read_item(thing: Thing, section: str, line: str, number: int) -> None:
     """Takes an item of a section of an object."""
     if section == 'PROVIDES':
         found = PROVIDED.fullmatch(line)
@@ -47,7 +54,7 @@ def read_item(thing, section, line, number):
     elif section == 'REQUIRES':
         found = REQUIRED.fullmatch(line)
         if found:
-            thing.required.append(found.groups())
+            thing.required.append((found[1], found[2]))
     elif section == 'IMPLEMENTS':
         found = LINK.fullmatch(line)
         if found:
@@ -63,31 +70,33 @@ def read_item(thing, section, line, number):
         raise Unreadable(f'line {number} is none that format writes there: {line}')
 
 
-def read_design(lines):
+def read_design(lines: list[str]) -> tuple[str, list[Thing]]:
     """The design's name and its objects in order of writing, the root first."""
     lines = [line.strip() for line in lines]
     head = re.match(r'DESIGN (\w+)\b', lines[0]) if lines else None
     if not head:
         raise Unreadable('no design: give it what `hrthood format D` writes')
-    things, here, section, body = [], None, None, None
+    things: list[Thing] = []
+    here: Thing | None = None
+    section = body = ''
     for number, line in enumerate(lines, 1):
         begun = OBJECT.fullmatch(line)
         operation = OPERATION.fullmatch(line)
-        if body is not None:
+        if body:
             if line == f'END {body};':
-                body = None
-            elif CALL.fullmatch(line):
-                here.calls.append(CALL.fullmatch(line).groups())
+                body = ''
+            elif here and (call := CALL.fullmatch(line)):
+                here.calls.append((call[1], call[2]))
         elif begun:
             thing = Thing(begun[1], begun[2], here)
             if here:
                 here.children.append(thing)
             things.append(thing)
-            here, section = thing, None
+            here, section = thing, ''
         elif here is None:
             continue
         elif line == f'END {here.name};':
-            here, section = here.parent, None
+            here, section = here.parent, ''
         elif line == 'THREAD' or operation:
             body = operation[1] if operation else 'THREAD'
         elif line in SECTIONS:
@@ -99,7 +108,7 @@ def read_design(lines):
     return head[1], things
 
 
-def terminal_of(call, by_name):
+def terminal_of(call: tuple[str, str], by_name: dict[str, Thing]) -> tuple[Thing, str, str] | None:
     """The terminal object and operation that a call means, and its constraint; None where it leads nowhere."""
     for _ in range(len(by_name) + 1):
         thing = by_name.get(call[0])
@@ -119,7 +128,7 @@ SHAPES = {
 }
 
 
-def put_object(thing, indent, out):
+def put_object(thing: Thing, indent: int, out: list[str]) -> None:
     """The node of a terminal object, or the box of one with children."""
     gap = '   ' * indent
     if not thing.children:
@@ -132,10 +141,10 @@ def put_object(thing, indent, out):
     out.append(f'{gap}}}')
 
 
-def edges_of(things):
+def edges_of(things: list[Thing]) -> dict[tuple[str, str, bool], list[str]]:
     """The arrows: from whom to whom, whether requests, and the operations by name, in order of writing."""
     by_name = {thing.name: thing for thing in things}
-    edges = {}
+    edges: dict[tuple[str, str, bool], list[str]] = {}
     for thing in things:
         for call in thing.calls:
             meant = terminal_of(call, by_name) if call in thing.required else None
@@ -146,7 +155,7 @@ def edges_of(things):
     return edges
 
 
-def picture(name, things):
+def picture(name: str, things: list[Thing]) -> list[str]:
     """The lines of the picture."""
     out = [f'digraph "{name}" {{', '   compound=true;', '   rankdir=LR;', '   labeljust=l;']
     put_object(things[0], 1, out)
@@ -162,7 +171,7 @@ def picture(name, things):
     return out + ['}']
 
 
-def main():
+def main() -> None:
     if len(sys.argv) > 1:
         sys.exit(__doc__)
     try:

@@ -13,7 +13,11 @@ There is one gap. A task that tells nothing more before the trace ends may be st
 two assignments of ticks are in doubt, and `Stretch.rivals` names who else may have run then. All this is an argument on paper that was
 tried, and nothing of it is proved.
 """
+
+from __future__ import annotations
+
 import re
+from typing import Any, Iterator
 
 OWN = frozenset(('enter', 'leave', 'put', 'request', 'end', 'stop'))
 TOKEN = re.compile(r'[a-z][a-z0-9_]*|[0-9][0-9_]*|:=|\.\.|[^\sa-z0-9]')
@@ -29,32 +33,37 @@ class Fault(Exception):
 class Task:
     """A task; what its text does not tell is None."""
 
-    def __init__(self, name):
+    def __init__(self, name: str) -> None:
         self.name = name
-        self.priority = None
+        self.priority: Any = None
         self.is_cyclic = True
         self.is_external = False
-        self.operation = None       # the name of its requests, where it takes any
-        self.period = self.offset = self.deadline = self.bound = self.jitter = None
-        self.cost = self.blocking = None
+        self.operation: str | None = None       # the name of its requests, where it takes any
+        self.period: Any = None
+        self.offset: Any = None
+        self.deadline: Any = None
+        self.bound: Any = None
+        self.jitter: Any = None
+        self.cost: Any = None
+        self.blocking: Any = None
 
-    def kind(self):
+    def kind(self) -> str:
         return 'cyclic' if self.is_cyclic else 'sporadic, external' if self.is_external else 'sporadic'
 
 
 class Program:
     """What an Ada text says of its tasks, of ceilings and of costs."""
 
-    def __init__(self):
-        self.design = None
-        self.tasks = {}             # name to Task
-        self.ceilings = {}          # name of a protected or sporadic unit to its ceiling
-        self.costs = {}             # name of a cost to its ticks
+    def __init__(self) -> None:
+        self.design: str | None = None
+        self.tasks: dict[str, Task] = {}
+        self.ceilings: dict[str, int] = {}      # of protected and sporadic units
+        self.costs: dict[str, int] = {}
 
-    def task(self, name):
+    def task(self, name: str) -> Task:
         return self.tasks.setdefault(name, Task(name))
 
-    def ceilings_of_requests(self):
+    def ceilings_of_requests(self) -> set[int]:
         """The priorities at which requests are stored."""
         return {self.ceilings[name] for name in self.tasks if name in self.ceilings}
 
@@ -62,13 +71,13 @@ class Program:
 class ProgramReader:
     """Takes from the tokens of an Ada text what a Program holds. The text is one that the program writes or has taken."""
 
-    def __init__(self, text):
+    def __init__(self, text: str) -> None:
         self.program = Program()
         self.tokens = TOKEN.findall(COMMENT.sub('', text.lower()))
-        self.packages = []          # those that are open
-        self.part = None            # the declaration that is open: 'protected' or 'task'
+        self.packages: list[str] = []           # those that are open
+        self.part: str | None = None            # the declaration that is open: 'protected' or 'task'
 
-    def read(self):
+    def read(self) -> Program:
         steps = {'package': self.open_package, 'end': self.close_package, 'protected': self.open_part, 'task': self.open_part,
                  'pragma': self.take_priority, 'after': self.take_time, 'constant': self.take_constant, 'renames': self.take_operation}
         for place, token in enumerate(self.tokens):
@@ -77,27 +86,27 @@ class ProgramReader:
                 step(place)
         return self.program
 
-    def number(self, place):
+    def number(self, place: int) -> int:
         return int(self.tokens[place].replace('_', ''))
 
-    def is_at(self, place, *tokens):
+    def is_at(self, place: int, *tokens: str) -> bool:
         return self.tokens[place:place + len(tokens)] == list(tokens)
 
-    def open_package(self, place):
+    def open_package(self, place: int) -> None:
         name = self.tokens[place + 2 if self.is_at(place + 1, 'body') else place + 1]
         if not self.packages and name != 'hrt':
             self.program.design = name
         self.packages.append(name)
 
-    def close_package(self, place):
+    def close_package(self, place: int) -> None:
         if self.packages and self.is_at(place + 1, self.packages[-1]):
             self.packages.pop()
 
-    def open_part(self, place):
+    def open_part(self, place: int) -> None:
         if not self.is_at(place + 1, 'body'):
             self.part = self.tokens[place]
 
-    def take_priority(self, place):
+    def take_priority(self, place: int) -> None:
         if not self.is_at(place + 1, 'priority') or self.part is None:
             return
         unit = self.packages[-1]
@@ -107,7 +116,7 @@ class ProgramReader:
             self.program.ceilings[unit] = self.number(place + 3)
         self.part = None
 
-    def take_time(self, place):
+    def take_time(self, place: int) -> None:
         """The offset of a cyclic task, or its period."""
         task = self.program.tasks.get(self.packages[-1]) if self.packages else None
         if task is None or not self.is_at(place - 2, 'hrt', '.'):
@@ -117,7 +126,7 @@ class ProgramReader:
         elif self.is_at(place + 1, '(', 'hrt_next', ','):
             task.period = self.number(place + 4)
 
-    def take_constant(self, place):
+    def take_constant(self, place: int) -> None:
         name = self.tokens[place - 2]
         if self.packages[-1] == 'hrt' and name.endswith('_cost'):
             self.program.costs[name[:-len('_cost')]] = self.number(place + 2)
@@ -129,12 +138,12 @@ class ProgramReader:
         elif name == 'hrt_external':
             self.program.task(self.packages[-1]).is_external = self.is_at(place + 1, 'boolean', ':=', 'true')
 
-    def take_operation(self, place):
+    def take_operation(self, place: int) -> None:
         if self.is_at(place + 1, 'hrt_obcs', '.'):
             self.program.task(self.packages[-1]).operation = self.tokens[place + 3]
 
 
-def read_program(text):
+def read_program(text: str) -> Program:
     """Reads an Ada text, and the bounds in comments at its head."""
     try:
         program = ProgramReader(text).read()
@@ -152,7 +161,7 @@ def read_program(text):
     return program
 
 
-def read_analysis(text, program):
+def read_analysis(text: str, program: Program) -> None:
     """Adds what `analyse` tells of the tasks."""
     for line in text.split('\n'):
         words = line.split()
@@ -170,11 +179,12 @@ class Event:
     """A line of a trace: who did what, when. `object` is what is entered, left, requested or stopped at, `operation` of which operation."""
     __slots__ = ('time', 'kind', 'task', 'object', 'operation', 'values')
 
-    def __init__(self, time, kind, task=None, object=None, operation=None, values=()):
+    def __init__(self, time: int, kind: str, task: Any = None, object: Any = None, operation: str | None = None,
+                 values: tuple[int, ...] = ()) -> None:
         self.time, self.kind, self.task = time, kind, task
         self.object, self.operation, self.values = object, operation, values
 
-    def line(self):
+    def line(self) -> str:
         if self.kind == 'end':
             return '%d end %s used %d' % (self.time, self.task, *self.values)
         if self.kind == 'stop':
@@ -185,7 +195,7 @@ class Event:
         return ' '.join(words + [str(value) for value in self.values])
 
 
-def event_of(words):
+def event_of(words: list[str]) -> Event | None:
     """The event of the words of a line, or None."""
     time, kind, count = int(words[0]), words[1], len(words)
     if kind in ('enter', 'leave') and count >= 4:
@@ -204,7 +214,7 @@ def event_of(words):
     return None
 
 
-def read_event(line, place):
+def read_event(line: str, place: int) -> Event:
     """The event of a line, whose number in the trace is `place`."""
     try:
         event = event_of(line.split(' '))
@@ -215,7 +225,7 @@ def read_event(line, place):
     return event
 
 
-def split_output(text):
+def split_output(text: str) -> tuple[str, list[str]]:
     """The Ada text, empty in the output of `replay`, and the lines of the trace, of what `verify` or `replay` writes."""
     front, mark, trace = text.partition('\n-- trace\n')
     if not mark:
@@ -236,26 +246,27 @@ class Activation:
     """A task from a release to its end, as far as events tell. `spent` counts the ticks in which it is found to run."""
     __slots__ = ('task', 'release', 'value', 'is_arrival', 'end', 'used', 'spent', 'inside', 'order', 'rank')
 
-    def __init__(self, task, event, is_arrival, order):
+    def __init__(self, task: Task, event: Event, is_arrival: bool, order: int) -> None:
         self.task, self.release, self.is_arrival, self.order = task, event.time, is_arrival, order
         self.value = event.values[0] if event.values else None
-        self.end = self.used = None
+        self.end: Any = None
+        self.used: Any = None
         self.spent = 0
-        self.inside = []            # pairs of an object and the time of its enter, the innermost last
+        self.inside: list[tuple[str, int]] = []         # pairs of an object and the time of its enter, the innermost last
         self.rank = (task.priority, 0, -order)
 
-    def response(self):
-        return self.end - self.release
+    def response(self) -> int:
+        return int(self.end - self.release)
 
 
 class Totals:
     """Counts over the whole trace, of one task."""
 
-    def __init__(self):
+    def __init__(self) -> None:
         self.releases = self.ends = self.over_bound = 0
-        self.greatest = None
+        self.greatest: int | None = None
 
-    def take(self, activation):
+    def take(self, activation: Activation) -> None:
         response, bound = activation.response(), activation.task.bound
         self.ends += 1
         self.greatest = response if self.greatest is None else max(self.greatest, response)
@@ -265,17 +276,17 @@ class Totals:
 class Follower:
     """Takes the events one by one. Of tasks of one active priority the first in `order` goes first."""
 
-    def __init__(self, program):
+    def __init__(self, program: Program) -> None:
         self.program = program
-        self.ready = {}             # name to Activation
-        self.sections = []          # those that were left: (object, task, from, to)
+        self.ready: dict[str, Activation] = {}
+        self.sections: list[tuple[str, str, int, int]] = []     # those that were left: (object, task, from, to)
         self.totals = {name: Totals() for name in program.tasks}
         self.first = self.last = 0
-        self.arrived = (None, None)
+        self.arrived: tuple[int, str] | None = None
         self.steps = {'release': self.release, 'arrive': self.arrive, 'enter': self.enter, 'leave': self.leave, 'request': self.request,
                       'end': self.finish, 'put': self.go_on, 'stop': self.go_on}
 
-    def take(self, event, place):
+    def take(self, event: Event, place: int) -> None:
         if event.kind == 'horizon':
             return
         if event.task not in self.program.tasks:
@@ -286,10 +297,10 @@ class Follower:
             raise Fault('line %d of the trace: %s is not ready' % (place, event.task))
         self.steps[event.kind](event, place)
 
-    def arrive(self, event, place):
+    def arrive(self, event: Event, place: int) -> None:
         self.arrived = (event.time, event.task)
 
-    def release(self, event, place):
+    def release(self, event: Event, place: int) -> None:
         if event.task in self.ready:
             raise Fault('line %d of the trace: %s is ready already' % (place, event.task))
         self.last += 1
@@ -297,29 +308,29 @@ class Follower:
         self.ready[event.task] = Activation(self.program.tasks[event.task], event, is_arrival, self.last)
         self.totals[event.task].releases += 1
 
-    def enter(self, event, place):
+    def enter(self, event: Event, place: int) -> None:
         self.ready[event.task].inside.append((event.object, event.time))
         self.go_first(event.task)
 
-    def leave(self, event, place):
+    def leave(self, event: Event, place: int) -> None:
         inside = self.ready[event.task].inside
         if not inside or inside[-1][0] != event.object:
             raise Fault('line %d of the trace: %s is not in %s' % (place, event.task, event.object))
         self.sections.append((event.object, event.task, inside.pop()[1], event.time))
         self.go_first(event.task)
 
-    def request(self, event, place):
+    def request(self, event: Event, place: int) -> None:
         self.go_first(event.task)
 
-    def go_on(self, event, place):
+    def go_on(self, event: Event, place: int) -> None:
         """A put or a stop moves nothing."""
 
-    def finish(self, event, place):
+    def finish(self, event: Event, place: int) -> None:
         activation = self.ready.pop(event.task)
         activation.end, activation.used = event.time, event.values[0]
         self.totals[event.task].take(activation)
 
-    def go_first(self, name):
+    def go_first(self, name: str) -> None:
         """Behind a change of its priority a task goes before the others that have it."""
         activation = self.ready[name]
         self.first -= 1
@@ -339,17 +350,19 @@ class Stretch:
     """
     __slots__ = ('start', 'end', 'ready', 'runner', 'told', 'request', 'rivals')
 
-    def __init__(self, start, end, ready):
+    def __init__(self, start: int, end: int, ready: dict[str, Activation]) -> None:
         self.start, self.end = start, end
         self.ready = {name: (activation, activation.rank, activation.inside[-1][0] if activation.inside else None)
                       for name, activation in ready.items()}
-        self.runner = self.told = self.request = None
-        self.rivals = ()
+        self.runner: Any = None
+        self.told: Event | None = None
+        self.request: Any = None    # a time and an object
+        self.rivals: tuple[str, ...] = ()
 
-    def length(self):
+    def length(self) -> int:
         return self.end - self.start
 
-    def first_by_events(self):
+    def first_by_events(self) -> str:
         """The first of the ready tasks, if none of them is storing a request."""
         return max(self.ready, key=lambda name: self.ready[name][1])
 
@@ -361,16 +374,19 @@ class Reader:
     after says nothing of what came before, and the stretches begin and end there.
     """
 
-    def __init__(self, program, start, end):
+    def __init__(self, program: Program, start: int, end: int) -> None:
         self.start, self.end = start, end
         self.follower = Follower(program)
-        self.stretches, self.events, self.activations = [], [], []
+        self.stretches: list[Stretch] = []
+        self.events: list[Event] = []
+        self.activations: list[Activation] = []
         self.is_closed = False      # whether what is to come says nothing of the window
-        self.unsettled = set()      # tasks that may have run since they last told something
+        self.unsettled: set[str] = set()        # tasks that may have run since they last told something
         self.time = self.lines = 0
-        self.stop = self.horizon = None
+        self.stop: Event | None = None
+        self.horizon: int | None = None
 
-    def read(self, lines):
+    def read(self, lines: list[str]) -> Reader:
         for line in lines:
             self.lines += 1
             event = read_event(line, self.lines)
@@ -381,7 +397,7 @@ class Reader:
         self.settle()
         return self
 
-    def go_to(self, time):
+    def go_to(self, time: int) -> None:
         """From the instant whose events were taken to the next one."""
         if time < self.time:
             raise Fault('line %d of the trace: time falls' % self.lines)
@@ -390,7 +406,7 @@ class Reader:
             self.stretches.append(Stretch(self.time, time, self.follower.ready))
         self.time = time
 
-    def settle(self):
+    def settle(self) -> None:
         """Looks at the last stretch, all of whose events are known."""
         if self.is_closed:
             return
@@ -405,7 +421,7 @@ class Reader:
                 self.stretches.clear()
             self.is_closed = self.time >= self.end
 
-    def note(self, event):
+    def note(self, event: Event) -> None:
         kind = event.kind
         if kind in OWN and not self.is_closed:
             self.note_own(event)
@@ -421,43 +437,43 @@ class Reader:
         if self.start <= event.time <= self.end:
             self.events.append(event)
 
-    def note_own(self, event):
+    def note_own(self, event: Event) -> None:
         last = self.stretches[-1] if self.stretches else None
         if last is None or event.task not in last.ready or (last.told is not None and last.told.task != event.task):
             raise Fault('line %d of the trace: %s can not have run before it' % (self.lines, event.task))
         if last.told is None:
             last.told, last.runner = event, event.task
 
-    def note_release(self, event):
+    def note_release(self, event: Event) -> None:
         if event.time > self.end and self.is_closed:
             return
         self.activations.append(self.follower.ready[event.task])
         if len(self.activations) > 4096 and event.time < self.start:
             self.forget_activations()
 
-    def is_seen(self, start, end):
+    def is_seen(self, start: int, end: float) -> bool:
         return start <= self.end and end >= self.start
 
-    def forget_activations(self):
+    def forget_activations(self) -> None:
         """Lets go of activations of which nothing stands in the window: neither run, bound nor deadline."""
-        def is_kept(a):
+        def is_kept(a: Activation) -> bool:
             end = float('inf') if a.end is None else max(a.end, a.release + max(a.task.deadline or 0, a.task.bound or 0))
-            return self.is_seen(a.release, end) or (a.end is not None and self.stretches and a.end > self.stretches[0].start)
+            return self.is_seen(a.release, end) or bool(a.end is not None and self.stretches and a.end > self.stretches[0].start)
         self.activations = [a for a in self.activations if is_kept(a)]
 
 
 class Dispatching:
     """Finds who ran, from the last stretch to the first."""
 
-    def __init__(self, program, stretches, is_end):
+    def __init__(self, program: Program, stretches: list[Stretch], is_end: bool) -> None:
         self.program, self.stretches = program, stretches
         self.section = 2 * program.costs['assign']      # ticks for which a request is stored
-        self.coming = {}            # name to its next own event
-        self.left = {}              # name to its own ticks up to that event
+        self.coming: dict[str, Event] = {}      # name to its next own event
+        self.left: dict[str, int] = {}          # name to its own ticks up to that event
         # Behind the end of a trace a task may be going to tell a request, of a ceiling that is not known: its own ticks before the end.
         self.unseen = {(name, ceiling): 0 for name in program.tasks for ceiling in program.ceilings_of_requests()} if is_end else {}
 
-    def find(self):
+    def find(self) -> None:
         for stretch in reversed(self.stretches):
             if stretch.told is not None:
                 self.coming[stretch.told.task], self.left[stretch.told.task] = stretch.told, 0
@@ -468,14 +484,14 @@ class Dispatching:
                 self.count(stretch)
         self.keep_possible_rivals()
 
-    def rank(self, stretch, name, more):
+    def rank(self, stretch: Stretch, name: str, more: int) -> tuple[int, int, int]:
         """The rank of a task at the start of a stretch, if it has so many ticks more to run up to its next own event."""
         event = self.coming.get(name)
         if event is not None and event.kind == 'request' and self.left[name] + more <= self.section:
             return (self.program.ceilings[event.object], 1, 0)
         return stretch.ready[name][1]
 
-    def find_runner(self, stretch):
+    def find_runner(self, stretch: Stretch) -> None:
         ready, length = stretch.ready, stretch.length()
         waiting = {name: self.rank(stretch, name, 0) for name in ready}
         fitting = [name for name in ready
@@ -489,10 +505,10 @@ class Dispatching:
             raise Fault('%s ran from %d to %d, but %s goes first: the trace is none of this text' % (
                 stretch.runner, stretch.start, stretch.end, first))
 
-    def forget_unseen(self, name):
+    def forget_unseen(self, name: str) -> None:
         self.unseen = {key: ticks for key, ticks in self.unseen.items() if key[0] != name}
 
-    def find_rivals(self, stretch):
+    def find_rivals(self, stretch: Stretch) -> None:
         """Tasks that tell nothing more: may they be storing a request, at a ceiling that the runner's priority does not exceed?"""
         active = self.rank(stretch, stretch.runner, stretch.length())[0]
         for name, ceiling in list(self.unseen):
@@ -505,7 +521,7 @@ class Dispatching:
             elif not is_runner and name not in stretch.rivals and ceiling >= stretch.ready[name][1][0]:
                 stretch.rivals += (name,)
 
-    def count(self, stretch):
+    def count(self, stretch: Stretch) -> None:
         name, length = stretch.runner, stretch.length()
         event = self.coming.get(name)
         if event is not None:
@@ -515,9 +531,9 @@ class Dispatching:
             self.left[name] += length
         stretch.ready[name][0].spent += length
 
-    def keep_possible_rivals(self):
+    def keep_possible_rivals(self) -> None:
         """A call comes before a request is stored. So a rival has run for that long since it last told something."""
-        ran = {}                    # Activation to such ticks
+        ran: dict[Activation, int] = {}         # to such ticks
         for stretch in self.stretches:
             stretch.rivals = tuple(name for name in stretch.rivals
                                    if ran.get(stretch.ready[name][0], 0) >= self.program.costs['call'])
@@ -532,11 +548,11 @@ class Piece:
     """A task runs from `start` to `end`, inside `object` or, where `is_request`, while it stores a request of it."""
     __slots__ = ('start', 'end', 'task', 'object', 'is_request', 'rivals', 'activation')
 
-    def __init__(self, start, end, stretch, object, is_request):
+    def __init__(self, start: int, end: int, stretch: Stretch, object: str | None, is_request: bool) -> None:
         self.start, self.end, self.task, self.object, self.is_request = start, end, stretch.runner, object, is_request
         self.rivals, self.activation = stretch.rivals, stretch.ready[stretch.runner][0]
 
-    def goes_on(self, other):
+    def goes_on(self, other: Piece) -> bool:
         """Whether the other piece goes on with this one: only others' releases divide them."""
         return (self.end, self.activation, self.object, self.is_request, self.rivals) == (
             other.start, other.activation, other.object, other.is_request, other.rivals)
@@ -546,14 +562,14 @@ class Wait:
     """A task is ready from `start` to `end` and another one runs, whose priority is lower where `is_blocked`."""
     __slots__ = ('start', 'end', 'task', 'runner', 'is_blocked')
 
-    def __init__(self, stretch, name, is_blocked):
+    def __init__(self, stretch: Stretch, name: str, is_blocked: bool) -> None:
         self.start, self.end, self.task, self.runner, self.is_blocked = stretch.start, stretch.end, name, stretch.runner, is_blocked
 
 
 class Run:
     """What a trace tells of the window from `start` to `end`, and who runs in it. Totals are of the whole trace."""
 
-    def __init__(self, program, lines, start, end):
+    def __init__(self, program: Program, lines: list[str], start: int, end: int) -> None:
         reader = Reader(program, start, end).read(lines)
         self.program, self.lines, self.last = program, reader.lines, reader.time
         self.stop, self.horizon, self.totals = reader.stop, reader.horizon, reader.follower.totals
@@ -566,7 +582,7 @@ class Run:
         reader.forget_activations()
         self.activations = [a for a in reader.activations if a.release <= self.end]
 
-    def check_used(self, activations):
+    def check_used(self, activations: list[Activation]) -> None:
         """What each end tells is a check on all that was found."""
         if not self.stretches:
             return
@@ -576,7 +592,7 @@ class Run:
                 raise Fault('%s, released at %d, used %d ticks as the trace tells, and %d as it follows: the trace is none of this text' % (
                     a.task.name, a.release, a.used, a.spent))
 
-    def parts(self):
+    def parts(self) -> Iterator[Piece]:
         """The pieces in the window, from the first to the last, each as long as it goes on."""
         whole = None
         for piece in self.short_pieces():
@@ -589,7 +605,7 @@ class Run:
         if whole is not None:
             yield whole
 
-    def short_pieces(self):
+    def short_pieces(self) -> Iterator[Piece]:
         for stretch in self.stretches:
             start, end = max(stretch.start, self.start), min(stretch.end, self.end)
             if stretch.runner is None or start >= end:
@@ -600,9 +616,9 @@ class Run:
             if cut < end:
                 yield Piece(cut, end, stretch, stretch.request[1], True)
 
-    def waits(self):
+    def waits(self) -> Iterator[Wait]:
         """Who waits for whom, each as long as it goes on."""
-        open_waits = {}
+        open_waits: dict[str, Wait] = {}
         for stretch in self.stretches:
             for name, wait in list(open_waits.items()):
                 if name not in stretch.ready or wait.end != stretch.start or wait.runner != stretch.runner:

@@ -4,8 +4,11 @@
 It is a recogniser of the grammar of Ada texts that shares nothing with the toolset, and prints the lines of the list there: what
 is not told at the first token that differs, and what is a program still. No part of the gate.
 """
+from __future__ import annotations
+
 
 import re
+from typing import Callable
 
 from changed_tokens_of_design import TESTS, COSTS, NoDesign, Reader
 
@@ -28,7 +31,7 @@ SERVICES = (
 
 
 class AdaReader(Reader):
-    def is_name(self):
+    def is_name(self) -> bool:
         word = self.next()
         return (
             word is not None
@@ -37,7 +40,7 @@ class AdaReader(Reader):
             and not word.startswith("hrt_")
         )
 
-    def program(self):
+    def program(self) -> None:
         self.words(OPENING)
         for cost in COSTS:
             self.words(cost + "_cost : constant :=")
@@ -55,13 +58,13 @@ class AdaReader(Reader):
         self.words(f"end {name} ; with {name} ; procedure hrt_main is begin null ; end hrt_main ;")
         self.take(self.next() is None)
 
-    def specification(self):
+    def specification(self) -> tuple[str, str, list[tuple[str, str, str | None]]]:
         """The name of a unit, its kind, and the heads of its operations, each with its name and its parameters."""
         self.words("package")
         name = self.name()
         self.words("is")
         kind = "passive"
-        heads = []
+        heads: list[tuple[str, str, str | None]] = []
         if self.next() == "task":
             kind = "cyclic"
             self.task()
@@ -74,23 +77,23 @@ class AdaReader(Reader):
         self.words(f"end {name} ;")
         return name, kind, heads
 
-    def priority(self):
+    def priority(self) -> None:
         self.words("pragma priority (")
         self.number()
         self.words(") ;")
 
-    def task(self):
+    def task(self) -> None:
         self.words("task hrt_thread is")
         self.priority()
         self.words("end hrt_thread ;")
 
-    def declarations(self):
+    def declarations(self) -> list[tuple[str, str, str | None]]:
         heads = []
         while self.next() == "procedure":
             heads.append(self.declaration(False))
         return heads
 
-    def declaration(self, is_request):
+    def declaration(self, is_request: bool) -> tuple[str, str, str | None]:
         """The tokens of a head, its name, and the name of its first parameter."""
         start = self.place
         self.words("procedure")
@@ -108,11 +111,11 @@ class AdaReader(Reader):
                     self.words(";")
                     self.parameter()
             self.words(")")
-        head = " ".join(self.tokens[start : self.place])
+        head = " ".join(self.tokens[start:self.place])
         self.words(";")
         return head, name, first
 
-    def shared(self):
+    def shared(self) -> list[tuple[str, str, str | None]]:
         self.words("hrt_object is")
         self.priority()
         heads = self.declarations()
@@ -124,7 +127,7 @@ class AdaReader(Reader):
             self.words(f"{head} renames hrt_object . {name} ;")
         return heads
 
-    def sporadic(self):
+    def sporadic(self) -> list[tuple[str, str, str | None]]:
         self.words("hrt_obcs is")
         self.priority()
         head, name, first = self.declaration(True)
@@ -140,7 +143,7 @@ class AdaReader(Reader):
         self.words(";")
         return [(head, name, first)]
 
-    def unit_body(self, name, kind, heads):
+    def unit_body(self, name: str, kind: str, heads: list[tuple[str, str, str | None]]) -> None:
         self.words(f"package body {name} is")
         if kind == "cyclic":
             self.cyclic_body()
@@ -154,7 +157,7 @@ class AdaReader(Reader):
             self.operations(heads)
         self.words(f"end {name} ;")
 
-    def operations(self, heads):
+    def operations(self, heads: list[tuple[str, str, str | None]]) -> None:
         for head, name, _ in heads:
             self.words(head + " is")
             while self.is_name():
@@ -163,7 +166,7 @@ class AdaReader(Reader):
             self.block()
             self.words(f"end {name} ;")
 
-    def cyclic_body(self):
+    def cyclic_body(self) -> None:
         while self.is_name():
             self.datum()
         self.words("task body hrt_thread is hrt_next : hrt . moment := hrt . after ( hrt . epoch ,")
@@ -174,7 +177,7 @@ class AdaReader(Reader):
         self.block()
         self.words("activation_end ; end loop ; end hrt_thread ;")
 
-    def sporadic_body(self, head, name, first):
+    def sporadic_body(self, head: str, name: str, first: str | None) -> None:
         while self.is_name():
             self.datum()
         self.words(f"protected body hrt_obcs is {head} is begin hrt_value := {first or '0'} ; hrt_open := true ; end {name} ;")
@@ -186,24 +189,24 @@ class AdaReader(Reader):
         self.words("activation_end ; end loop ; end hrt_thread ;")
 
 
-def first_fault(tokens):
+def first_fault(tokens: list[str]) -> int | None:
     """The place of the first token with which no text goes on, or None."""
     try:
         AdaReader(tokens).program()
     except NoDesign as stop:
-        return stop.args[0]
+        return int(stop.args[0])
     return None
 
 
-def main():
-    changes = {"Cut": lambda t: [], "Doubled": lambda t: [t, t], "Replaced": lambda t: [";"]}
+def main() -> None:
+    changes: dict[str, Callable[[str], list[str]]] = {"Cut": lambda t: [], "Doubled": lambda t: [t, t], "Replaced": lambda t: [";"]}
     for name in ("ADA", "UNITS"):
-        text = re.search(rf'const {name}: &str =\n    "(.*?) ";', TESTS.read_text(), re.S).group(1)
+        text = re.findall(rf'const {name}: &str =\n    "(.*?) ";', TESTS.read_text(), re.S)[0]
         tokens = text.replace("\\\n", " ").split()
         print(name, len(tokens), "tokens", first_fault(tokens))
         for change, made in changes.items():
             for place, token in enumerate(tokens):
-                changed = tokens[:place] + made(token) + tokens[place + 1 :]
+                changed = tokens[:place] + made(token) + tokens[place + 1:]
                 fault = first_fault(changed)
                 if changed == tokens:
                     continue

@@ -4,9 +4,12 @@
 It is a recogniser of the grammar of designs that shares nothing with the toolset, and prints the lines of the list there: what
 is not told at the first token that differs, and what is a design still. No part of the gate.
 """
+from __future__ import annotations
+
 
 import pathlib
 import re
+from typing import Any, Callable
 
 TESTS = pathlib.Path(__file__).parent.parent.parent / "crates/hrthood/src/tests/changed_tokens.rt"
 KEPT = set(
@@ -24,51 +27,51 @@ class NoDesign(Exception):
 
 
 class Reader:
-    def __init__(self, tokens):
+    def __init__(self, tokens: list[str]) -> None:
         self.tokens = tokens
         self.place = 0
         self.has_units = False
 
-    def next(self):
+    def next(self) -> str | None:
         return self.tokens[self.place] if self.place < len(self.tokens) else None
 
-    def is_name(self):
+    def is_name(self) -> bool:
         word = self.next()
         return word is not None and word[0].isalpha() and word not in KEPT
 
-    def take(self, is_right):
+    def take(self, is_right: bool) -> None:
         if not is_right:
             raise NoDesign(self.place)
         self.place += 1
 
-    def words(self, text):
+    def words(self, text: str) -> None:
         for word in text.split():
             self.take(self.next() == word)
 
-    def name(self, wanted=None):
+    def name(self, wanted: str | None = None) -> str:
         word = self.next()
         self.take(self.is_name() and wanted in (None, word))
-        return word
+        return str(word)
 
-    def number(self):
+    def number(self) -> None:
         word = self.next()
         self.take(word is not None and word[0].isdigit())
 
-    def one_of(self, words):
+    def one_of(self, words: list[str]) -> None:
         self.take(self.next() in words)
 
-    def each(self, part, goes_on):
+    def each(self, part: Callable[[], Any], goes_on: Callable[[], bool]) -> None:
         """One or more of a part."""
         part()
         while goes_on():
             part()
 
-    def section(self, word, part, goes_on):
+    def section(self, word: str, part: Callable[[], Any], goes_on: Callable[[], bool]) -> None:
         if self.next() == word:
             self.words(word)
             self.each(part, goes_on)
 
-    def design(self):
+    def design(self) -> None:
         self.words("design")
         name = self.name()
         if self.next() == "version":
@@ -97,7 +100,7 @@ class Reader:
         self.words(";")
         self.take(self.next() is None)
 
-    def object(self):
+    def object(self) -> None:
         self.words("object")
         name = self.name()
         self.words("is")
@@ -118,7 +121,7 @@ class Reader:
         self.name(name)
         self.words(";")
 
-    def attribute(self):
+    def attribute(self) -> None:
         self.one_of(ATTRIBUTES)
         self.words("=")
         self.number()
@@ -126,7 +129,7 @@ class Reader:
             self.one_of(["us", "ms", "s"])
         self.words(";")
 
-    def provided(self):
+    def provided(self) -> None:
         self.name()
         if self.next() == "(":
             self.words("(")
@@ -139,25 +142,25 @@ class Reader:
             self.one_of(CONSTRAINTS)
         self.words(";")
 
-    def parameter(self):
+    def parameter(self) -> None:
         self.name()
         self.words(":")
         self.one_of(["in", "out"])
         self.words("word")
 
-    def required(self):
+    def required(self) -> None:
         self.name()
         self.words(".")
         self.name()
         self.words(";")
 
-    def datum(self):
+    def datum(self) -> None:
         self.name()
         self.words(": word :=")
         self.number()
         self.words(";")
 
-    def operation(self):
+    def operation(self) -> None:
         self.words("operation")
         name = self.name()
         self.words("is")
@@ -169,16 +172,16 @@ class Reader:
         self.name(name)
         self.words(";")
 
-    def link(self):
+    def link(self) -> None:
         self.name()
         self.words("by")
         self.required()
 
-    def block(self):
+    def block(self) -> None:
         begins = ("null", "if", "for", "exit", "work", "put")
         self.each(self.statement, lambda: self.is_name() or self.next() in begins)
 
-    def statement(self):
+    def statement(self) -> None:
         word = self.next()
         if word == "null":
             self.words("null ;")
@@ -222,7 +225,7 @@ class Reader:
             self.name()
             self.assignment_or_call()
 
-    def assignment_or_call(self):
+    def assignment_or_call(self) -> None:
         if self.next() == ":=":
             self.words(":=")
             self.expression()
@@ -238,13 +241,13 @@ class Reader:
                 self.words(")")
         self.words(";")
 
-    def chain(self, part, operators):
+    def chain(self, part: Callable[[], Any], operators: list[str]) -> None:
         part()
         while self.next() in operators:
             self.one_of(operators)
             part()
 
-    def expression(self):
+    def expression(self) -> None:
         self.relation()
         logical = self.next()
         if logical in ("and", "or", "xor"):
@@ -252,20 +255,20 @@ class Reader:
                 self.words(logical)
                 self.relation()
 
-    def relation(self):
+    def relation(self) -> None:
         self.sum()
         comparisons = ["=", "/=", "<", "<=", ">", ">="]
         if self.next() in comparisons:
             self.one_of(comparisons)
             self.sum()
 
-    def sum(self):
+    def sum(self) -> None:
         self.chain(self.product, ["+", "-"])
 
-    def product(self):
+    def product(self) -> None:
         self.chain(self.factor, ["*", "/", "mod"])
 
-    def factor(self):
+    def factor(self) -> None:
         if self.next() == "not":
             self.words("not")
         word = self.next()
@@ -279,23 +282,23 @@ class Reader:
             self.name()
 
 
-def first_fault(tokens):
+def first_fault(tokens: list[str]) -> int | None:
     """The place of the first token with which no design goes on, or None."""
     try:
         Reader(tokens).design()
     except NoDesign as stop:
-        return stop.args[0]
+        return int(stop.args[0])
     return None
 
 
-def main():
-    text = re.search(r'const DESIGN: &str =\n    "(.*?) ";', TESTS.read_text(), re.S).group(1)
+def main() -> None:
+    text = re.findall(r'const DESIGN: &str =\n    "(.*?) ";', TESTS.read_text(), re.S)[0]
     tokens = text.replace("\\\n", " ").split()
-    changes = {"Cut": lambda t: [], "Doubled": lambda t: [t, t], "Replaced": lambda t: [";"]}
+    changes: dict[str, Callable[[str], list[str]]] = {"Cut": lambda t: [], "Doubled": lambda t: [t, t], "Replaced": lambda t: [";"]}
     print(len(tokens), "tokens")
     for change, made in changes.items():
         for place, token in enumerate(tokens):
-            changed = tokens[:place] + made(token) + tokens[place + 1 :]
+            changed = tokens[:place] + made(token) + tokens[place + 1:]
             fault = first_fault(changed)
             if changed == tokens:
                 continue

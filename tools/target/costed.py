@@ -6,6 +6,9 @@
 The text has the layout of the generator, with one statement a line. Each statement burns its cost before it takes effect, as on the modelled
 processor, and sections and requests tell their lines. The result needs the packages hrt and hrt_model of the folder `stepped`.
 """
+
+from __future__ import annotations
+
 import re
 import sys
 
@@ -16,17 +19,19 @@ PARAMETER = re.compile(r'([a-z][a-z0-9_]*) : (in|out) word')
 class Coster:
     """Takes the lines of a text one by one."""
 
-    def __init__(self, text):
+    def __init__(self, text: str) -> None:
         self.text = text
-        self.out = []
+        self.out: list[str] = []
         self.outside = set(OUTSIDE.findall(text))   # units that are requested from outside
-        self.packages = []                          # bodies that are open
-        self.part = None                            # 'object', 'obcs' or 'task' that is open, or 'passive' for an operation outside of them
-        self.operation = None                       # the name of the operation, entry or task that is open
-        self.ins, self.outs = [], []                # its parameters
+        self.packages: list[str] = []               # bodies that are open
+        # 'object', 'obcs' or 'task' that is open, or 'passive' for an operation outside of them
+        self.part: str | None = None
+        self.operation: str | None = None           # the name of the operation, entry or task that is open
+        self.ins: list[str] = []                    # its parameters
+        self.outs: list[str] = []
         self.is_body = False                        # whether its `begin` has come
 
-    def costed(self):
+    def costed(self) -> str:
         lines = self.text.split('\n')
         for place, line in enumerate(lines):
             if line.startswith('procedure hrt_main'):
@@ -35,7 +40,7 @@ class Coster:
             self.take(line)
         return '\n'.join(self.out)
 
-    def take(self, line):
+    def take(self, line: str) -> None:
         statement = line.strip()
         words = statement.split()
         if words[:2] == ['package', 'body']:
@@ -51,12 +56,12 @@ class Coster:
                 return
         self.out.append(line)
 
-    def open_package(self, name):
+    def open_package(self, name: str) -> None:
         if not self.packages:
             self.out.append('with hrt_model;')
         self.packages.append(name)
 
-    def take_frame(self, statement, words):
+    def take_frame(self, statement: str, words: list[str]) -> None:
         """A line that opens or closes something, or a declaration."""
         if words[:2] == ['protected', 'body']:
             self.part = 'obcs' if words[2] == 'hrt_obcs' else 'object'
@@ -70,15 +75,15 @@ class Coster:
         elif words[0] == 'end':
             self.close(statement)
 
-    def begin(self):
+    def begin(self) -> None:
         self.is_body = self.operation is not None
         if self.part == 'object':
-            self.tell('enter', self.packages[-1] + '.' + self.operation, self.ins)
+            self.tell('enter', f'{self.packages[-1]}.{self.operation}', self.ins)
 
-    def close(self, statement):
+    def close(self, statement: str) -> None:
         if self.is_body:
             if self.part == 'object':
-                self.tell('leave', self.packages[-1] + '.' + self.operation, self.outs)
+                self.tell('leave', f'{self.packages[-1]}.{self.operation}', self.outs)
             elif self.is_request():
                 self.tell('request', self.packages[-1], self.ins)
             self.is_body, self.operation = False, None
@@ -89,13 +94,13 @@ class Coster:
         elif statement == 'end %s;' % self.packages[-1]:
             self.packages.pop()
 
-    def is_request(self):
+    def is_request(self) -> bool:
         """Whether a task of the design pays for what is open. Requests from outside take no time, and are not told as requests."""
         return self.part == 'obcs' and self.operation != 'hrt_wait' and self.packages[-1] not in self.outside
 
-    def take_statement(self, line, statement, words):
+    def take_statement(self, line: str, statement: str, words: list[str]) -> None:
         """A line of a body: its cost comes before it, or in it where it has a condition."""
-        indent = re.match(' *', line).group()
+        indent = line[:len(line) - len(line.lstrip(' '))]
         if self.part == 'obcs' and not self.is_request():
             self.out.append(line)
         elif words[0] in ('if', 'elsif'):
@@ -108,7 +113,7 @@ class Coster:
             self.out += ['%shrt_model.pay (hrt.%s_cost);' % (indent, cost)] if cost else []
             self.out.append(line)
 
-    def cost_of(self, statement, words):
+    def cost_of(self, statement: str, words: list[str]) -> str | None:
         """The name of the cost, or None where the body of hrt pays, or nothing does."""
         if statement in ('loop', 'else', 'end if;', 'end loop;', 'activation_end;') or words[0] in ('work', 'put', 'delay', 'hrt_next'):
             return None
@@ -120,7 +125,7 @@ class Coster:
             return 'null'
         return 'assign' if ':=' in words else 'call'
 
-    def tell(self, what, object, values):
+    def tell(self, what: str, object: str, values: list[str]) -> None:
         images = ''.join(' & hrt_model.image (%s)' % value for value in values)
         self.out.append('            hrt_model.tell ("%s", "%s"%s);' % (what, object, images))
 

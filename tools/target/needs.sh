@@ -1,3 +1,4 @@
+# shellcheck shell=bash
 # What the scripts of this folder need of a host. They read this with `.` and call both functions; each ends the script where something is missing.
 
 # Status 3: no GNAT.
@@ -12,10 +13,10 @@ need_gnat() {
 
 # Status 4: no right to real-time priorities, or no such processor. Without the right GNAT keeps neither priorities nor ceilings.
 need_priorities() {
-    command -v chrt >/dev/null && command -v taskset >/dev/null || {
+    if ! command -v chrt >/dev/null || ! command -v taskset >/dev/null; then
         echo 'chrt or taskset is missing (Debian: apt-get install util-linux)' >&2
         exit 4
-    }
+    fi
     taskset -c "$1" true 2>/dev/null || {
         echo "no processor $1 is given to this process" >&2
         exit 4

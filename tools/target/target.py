@@ -11,10 +11,13 @@
 A line of a run is `TIME KIND PRIORITY MORE`. TIME is seconds, or ticks of a stepped run, and the priority is that of the task. Status 0: the run
 agrees; 1: it does not; 2: an input is none of these; 5: it does not, and the host took the processor away meanwhile, so that nothing is shown.
 """
+
+from __future__ import annotations
+
 import os
 import re
 import sys
-from collections import namedtuple
+from typing import Iterable, Iterator, NamedTuple
 
 sys.dont_write_bytecode = True
 sys.path.insert(0, os.path.join(os.path.dirname(os.path.realpath(__file__)), '..', 'report'))
@@ -25,22 +28,34 @@ AGREES, DIFFERS, NO_INPUT, DISTURBED = 0, 1, 2, 5
 TOLD = ('enter', 'leave', 'put', 'request', 'end')      # events of which a stepped run has lines
 MICROSECONDS = 1000000                                  # of a second
 
-Line = namedtuple('Line', 'time kind task more')
-Arrival = namedtuple('Arrival', 'time task value')
+
+class Line(NamedTuple):
+    """A line of a run."""
+    time: float
+    kind: str
+    task: str
+    more: str
+
+
+class Arrival(NamedTuple):
+    """A request from outside."""
+    time: int
+    task: str
+    value: int | None
 
 
 # Inputs
 
-def number(word):
+def number(word: str) -> int:
     return int(word.replace('_', ''))
 
 
-def items_of(text):
+def items_of(text: str) -> list[list[str]]:
     """The items of an arrivals file, as lists of words."""
     return [item.replace(',', ' ').lower().split() for item in re.sub('--[^\n]*', '', text).split(';')[:-1]]
 
 
-def read_arrivals(text):
+def read_arrivals(text: str) -> tuple[int, list[Arrival]]:
     """The horizon, and the requests from outside."""
     horizon, arrivals = 0, []
     for words in items_of(text):
@@ -51,18 +66,18 @@ def read_arrivals(text):
     return horizon, arrivals
 
 
-def without_durations(text):
+def without_durations(text: str) -> str:
     """The items of an arrivals file but those of WORK."""
     return ''.join(' '.join(words) + ';\n' for words in items_of(text) if words[:1] != ['work'])
 
 
-def tick_of(design):
+def tick_of(design: str) -> int:
     """The microseconds of a tick. An Ada text does not tell them."""
     found = re.search(r'\btick\s*=\s*([0-9_]+)\s*(us|ms|s)\b', re.sub('--[^\n]*', '', design.lower()))
     return number(found[1]) * {'us': 1, 'ms': 1000, 's': MICROSECONDS}[found[2]] if found else 1000
 
 
-def read_text(text):
+def read_text(text: str) -> traces.Program:
     """A text whose tasks have priorities of their own, by which the lines of a run tell them."""
     program = traces.read_program(text)
     priorities = [task.priority for task in program.tasks.values()]
@@ -71,19 +86,19 @@ def read_text(text):
     return program
 
 
-def read_trace(text):
+def read_trace(text: str) -> tuple[list[Line], list[traces.Event]]:
     """The lines of the trace of a replay that a run has too, and all its events."""
     events = [traces.read_event(line, place) for place, line in enumerate(text.splitlines(), 1)]
     lines = [Line(e.time, e.kind, e.task, '' if e.kind == 'end' else more_of(e)) for e in events if e.kind in TOLD]
     return lines, events
 
 
-def more_of(event):
+def more_of(event: traces.Event) -> str:
     """What stands behind the task in the line of an event."""
     return ' '.join(event.line().split(' ')[3:])
 
 
-def read_run(text, program):
+def read_run(text: str, program: traces.Program) -> list[Line]:
     """The lines of a run. The last one may be cut off where the program was ended."""
     names = {task.priority: task.name for task in program.tasks.values()}
     lines = []
@@ -100,7 +115,7 @@ def read_run(text, program):
 
 # Requests from outside
 
-def driver(text, arrivals_text):
+def driver(text: str, arrivals_text: str) -> dict[str, str]:
     """Ada units, name to text: a task for each unit that is requested, at the priority of its requests, and a main program."""
     program = traces.read_program(text)
     _, arrivals = read_arrivals(arrivals_text)
@@ -131,42 +146,44 @@ def driver(text, arrivals_text):
 class Answer:
     """What is said of a run, and whether it agrees."""
 
-    def __init__(self, run):
-        self.lines = []
+    def __init__(self, run: list[Line]) -> None:
+        self.lines: list[str] = []
         self.is_bad = False
         self.away = [float(line.more) for line in run if line.kind == 'away']
 
-    def refuse_ends_of_tasks(self, run):
+    def refuse_ends_of_tasks(self, run: list[Line]) -> None:
         for line in run:
             if line.kind == 'dead':
                 self.refuse('TASK ENDED: %s at %s %s' % (line.task, line.time, line.more))
 
-    def say(self, line):
+    def say(self, line: str) -> None:
         self.lines.append(line)
 
-    def refuse(self, line):
+    def refuse(self, line: str) -> None:
         self.lines.append(line)
         self.is_bad = True
 
-    def status(self):
+    def status(self) -> int:
         if self.away:
             self.say('the host took the processor away %d times, for %.1f ms at most%s' % (
                 len(self.away), 1000 * max(self.away), '; so nothing is shown: run it again' if self.is_bad else ''))
         return AGREES if not self.is_bad else DISTURBED if self.away else DIFFERS
 
 
-def key_of(line):
+def key_of(line: Line) -> tuple[str, str]:
     """What a leave is counted by: its task and its operation."""
     return line.task, line.more.split(' ')[0]
 
 
-def late_leaves(wanted):
+def late_leaves(wanted: list[Line]) -> set[tuple[str, str, int]]:
     """The leaves that the replay has at the instant of a request of the same task: each with its number among those of its key.
 
     The modelled processor does all that takes no tick before it dispatches. On a host the task that is requested preempts at once, and the leave of
     the outer object comes when the task runs again. Nothing is left to do behind it, so no bound is touched.
     """
-    requested, counts, late = {}, {}, set()
+    requested: dict[str, float] = {}
+    counts: dict[tuple[str, str], int] = {}
+    late: set[tuple[str, str, int]] = set()
     for line in wanted:
         if line.kind == 'request':
             requested[line.task] = line.time
@@ -177,8 +194,8 @@ def late_leaves(wanted):
     return late
 
 
-def without(lines, late):
-    counts = {}
+def without(lines: Iterable[Line], late: set[tuple[str, str, int]]) -> Iterator[Line]:
+    counts: dict[tuple[str, str], int] = {}
     for line in lines:
         if line.kind == 'leave':
             counts[key_of(line)] = counts.get(key_of(line), 0) + 1
@@ -187,7 +204,7 @@ def without(lines, late):
         yield line
 
 
-def compare_stop(stop, run, answer):
+def compare_stop(stop: traces.Event, run: list[Line], answer: Answer) -> None:
     """Where the replay stops, the task gets Program_Error."""
     found = next((line for line in run if line.kind == 'dead'), None)
     if found is None:
@@ -198,7 +215,7 @@ def compare_stop(stop, run, answer):
         answer.refuse('the replay stops, and the run does otherwise: %s, %s at %s %s' % (stop.line(), found.task, found.time, found.more))
 
 
-def compare_steps(program, trace, run_text):
+def compare_steps(program: traces.Program, trace: str, run_text: str) -> Answer:
     """Each enter, leave, put, request and end, with its values and its tick."""
     wanted, events = read_trace(trace)
     run = read_run(run_text, program)
@@ -225,17 +242,17 @@ def compare_steps(program, trace, run_text):
     return answer
 
 
-def log(program, trace, run_text):
+def log(program: traces.Program, trace: str, run_text: str) -> str:
     """The trace of a stepped run. What a target doesn't tell is taken from the replay: when tasks are released and requests come from outside, the
     ticks that an activation took itself, and the horizon. Of one instant the lines of the run come first, as effects do on the modelled processor.
     """
     _, events = read_trace(trace)
     until = events[-1].time
-    used = {}
+    used: dict[str, list[str]] = {}
     for event in events:
         if event.kind == 'end':
             used.setdefault(event.task, []).append(more_of(event))
-    lines = []
+    lines: list[tuple[float, str]] = []
     for line in read_run(run_text, program):
         if line.kind in TOLD and line.time <= until:
             more = line.more
@@ -247,9 +264,9 @@ def log(program, trace, run_text):
     return ''.join(text + '\n' for _, text in sorted(lines, key=lambda line: line[0]))
 
 
-def compare_puts(program, wanted, run, answer):
+def compare_puts(program: traces.Program, replayed: list[Line], run: list[Line], answer: Answer) -> None:
     """The values that each task puts have to be those of the replay, as far as both go."""
-    wanted = [(line.task, line.more) for line in wanted if line.kind == 'put']
+    wanted = [(line.task, line.more) for line in replayed if line.kind == 'put']
     found = [(line.task, line.more) for line in run if line.kind == 'put']
     count = min(len(wanted), len(found))
     order = 'same order' if wanted[:count] == found[:count] else 'another order'
@@ -260,7 +277,7 @@ def compare_puts(program, wanted, run, answer):
             answer.refuse('   %s: OTHER VALUES' % task)
 
 
-def responses(task, arrivals, ends):
+def responses(task: traces.Task, arrivals: list[Arrival], ends: list[float]) -> list[float]:
     """From the releases that are known beforehand to the ends; none for a task that another one requests."""
     if task.is_cyclic:
         releases = [task.offset + task.period * i for i in range(len(ends))]
@@ -269,9 +286,10 @@ def responses(task, arrivals, ends):
     return [end - release for release, end in zip(releases, ends)]
 
 
-def replayed_responses(events):
+def replayed_responses(events: list[traces.Event]) -> dict[str, int]:
     """The greatest response of each task in the replay."""
-    begun, greatest = {}, {}
+    begun: dict[str, int] = {}
+    greatest: dict[str, int] = {}
     for event in events:
         if event.kind == 'release':
             begun[event.task] = event.time
@@ -280,7 +298,7 @@ def replayed_responses(events):
     return greatest
 
 
-def compare_responses(program, trace, arrivals_text, tick, run_text):
+def compare_responses(program: traces.Program, trace: str, arrivals_text: str, tick: int, run_text: str) -> Answer:
     """What is put, and the greatest response of each task beside its bound."""
     wanted, events = read_trace(trace)
     until, arrivals = read_arrivals(arrivals_text)
@@ -292,7 +310,7 @@ def compare_responses(program, trace, arrivals_text, tick, run_text):
     compare_puts(program, wanted, run, answer)
     replayed = replayed_responses(events)
     answer.say('%-20s %8s %8s %10s %10s %8s' % ('task', 'deadline', 'bound', 'replayed', 'run', 'ends'))
-    for task in sorted(program.tasks.values(), key=lambda task: -task.priority):
+    for task in sorted(program.tasks.values(), key=lambda task: -int(task.priority)):
         ends = [line.time for line in run if line.kind == 'end' and line.task == task.name]
         found = responses(task, arrivals, ends)
         answer.say('%-20s %8s %8s %10s %10s %8d' % (task.name, task.deadline, task.bound, replayed.get(task.name, '-'),
@@ -304,12 +322,12 @@ def compare_responses(program, trace, arrivals_text, tick, run_text):
     return answer
 
 
-def load(path):
+def load(path: str) -> str:
     with open(path, encoding='latin-1') as stream:
         return stream.read()
 
 
-def do(words):
+def do(words: list[str]) -> int:
     """Does what the words say, and returns a status."""
     if words[:1] == ['arrivals'] and len(words) == 2:
         sys.stdout.write(without_durations(load(words[1])))
@@ -330,13 +348,13 @@ def do(words):
     return AGREES
 
 
-def told(answer):
+def told(answer: Answer) -> int:
     status = answer.status()
     print('\n'.join(answer.lines))
     return status
 
 
-def main():
+def main() -> None:
     try:
         sys.exit(do(sys.argv[1:]))
     except (Fault, OSError) as fault:

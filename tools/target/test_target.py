@@ -1,11 +1,15 @@
 #!/usr/bin/env python3
 """Tests of what needs neither GNAT nor rights: texts that pay their costs, arrivals as tasks, and that the comparisons find what is changed."""
+
+from __future__ import annotations
+
 import os
 import shutil
 import subprocess
 import sys
 import tempfile
 import unittest
+from typing import Any
 
 sys.dont_write_bytecode = True
 HERE = os.path.dirname(os.path.realpath(__file__))
@@ -57,59 +61,61 @@ SECONDS = """ 0.0265 end 3
 ARRIVALS = '-- once\nUNTIL 120;\nWORK sampler 5, 2;\nAT 21 button 7;\n'
 
 
-def example(name):
+def example(name: str) -> str:
     with open(os.path.join(EXAMPLES, name)) as stream:
         return stream.read()
 
 
-def program():
+def program() -> traces.Program:
     return target.read_text(HEAD + example('every_kind.ada'))
 
 
 class Steps(unittest.TestCase):
-    def answer(self, run, trace=TRACE):
+    def answer(self, run: str, trace: str = TRACE) -> tuple[int, list[str]]:
         answer = target.compare_steps(program(), trace, run)
         return answer.status(), answer.lines
 
-    def test_a_run_that_agrees(self):
+    def test_a_run_that_agrees(self) -> None:
         self.assertEqual(self.answer(STEPS), (target.AGREES, ['same: all 9 lines of the replay, in order, at the same ticks']))
 
-    def test_each_line_that_is_changed_is_found(self):
+    def test_each_line_that_is_changed_is_found(self) -> None:
         lines = STEPS.splitlines()[:9]
         for i, line in enumerate(lines):
             time, rest = line.split()[0], line.split(' ', 2)[2]
             later = ' %d %s' % (int(time) + 1, rest)
             other_task = line.replace(' 1', ' 2', 1) if ' 1 ' in line or line.endswith(' 1') else line[:-1] + '9'
-            for name, changed in (('missing', []), ('twice', [line, line]), ('a tick later', [later]), ('other values', [line + ' 1']),
-                                  ('another task or value', [other_task])):
+            changes: tuple[tuple[str, list[str]], ...] = (
+                ('missing', []), ('twice', [line, line]), ('a tick later', [later]), ('other values', [line + ' 1']),
+                ('another task or value', [other_task]))
+            for name, changed in changes:
                 self.assertNotEqual(changed, [line])
                 status, told = self.answer('\n'.join(lines[:i] + changed + lines[i + 1:]) + '\n')
                 self.assertEqual(status, target.DIFFERS, '%s: %s' % (name, line))
                 self.assertTrue(any('different from line' in one for one in told))
 
-    def test_lines_in_another_order(self):
+    def test_lines_in_another_order(self) -> None:
         lines = STEPS.splitlines()[:9]
         for i in range(8):
             swapped = lines[:i] + [lines[i + 1], lines[i]] + lines[i + 2:]
             self.assertEqual(self.answer('\n'.join(swapped) + '\n')[0], target.DIFFERS)
 
-    def test_an_empty_run_does_not_agree(self):
+    def test_an_empty_run_does_not_agree(self) -> None:
         self.assertEqual(self.answer('')[0], target.DIFFERS)
 
-    def test_the_place_is_told(self):
+    def test_the_place_is_told(self) -> None:
         status, lines = self.answer(STEPS.replace('32 request 1 printer 2', '32 request 1 printer 3'))
         self.assertEqual(lines[0], 'different from line 6 on (of 9 and 9):')
         self.assertIn('   replay 32 request sampler printer 2                 run 32 request sampler printer 3', lines)
 
-    def test_ticks_alone(self):
+    def test_ticks_alone(self) -> None:
         status, lines = self.answer(STEPS.replace(' 35 end', ' 37 end'))
         self.assertEqual((status, lines[-1]), (target.DIFFERS, 'the order is the same, and ticks differ by 2 at most'))
 
-    def test_a_task_that_ended(self):
+    def test_a_task_that_ended(self) -> None:
         status, lines = self.answer(STEPS + ' 40 dead 1 PROGRAM_ERROR hrt_run.adb:1\n')
         self.assertEqual((status, lines[0]), (target.DIFFERS, 'TASK ENDED: sampler at 40 PROGRAM_ERROR hrt_run.adb:1'))
 
-    def test_a_replay_that_stops(self):
+    def test_a_replay_that_stops(self) -> None:
         trace = TRACE[:TRACE.index('25 enter')] + '23 stop button board priority 3 ceiling 2\n'
         run = STEPS[:STEPS.index(' 25 enter')]
         dead = ' 23 dead 3 PROGRAM_ERROR kinds.adb:1 explicit raise\n'
@@ -120,14 +126,14 @@ class Steps(unittest.TestCase):
             self.assertEqual(self.answer(run + other, trace)[0], target.DIFFERS, other)
         self.assertEqual(self.answer(run.replace('board.note 2', 'board.note 3') + dead, trace)[0], target.DIFFERS)
 
-    def test_the_host_took_the_processor(self):
+    def test_the_host_took_the_processor(self) -> None:
         away = ' 22 away 1 0.0043\n'
         self.assertEqual(self.answer(away + STEPS)[0], target.AGREES)
         status, lines = self.answer(away + STEPS.replace('35 end', '36 end'))
         self.assertEqual((status, lines[-1]), (target.DISTURBED, 'the host took the processor away 1 times, for 4.3 ms at most; '
                                                'so nothing is shown: run it again'))
 
-    def test_a_leave_behind_a_request_may_come_late(self):
+    def test_a_leave_behind_a_request_may_come_late(self) -> None:
         trace = TRACE.replace('32 request sampler printer 2\n32 release printer 2\n',
                               '30 enter sampler board.note 2\n32 request sampler printer 2\n32 release printer 2\n32 leave sampler board.note\n')
         run = STEPS.replace(' 32 request 1 printer 2\n', ' 30 enter 1 board.note 2\n 32 request 1 printer 2\n')
@@ -136,71 +142,72 @@ class Steps(unittest.TestCase):
                          ['same: all 10 lines of the replay, in order, at the same ticks; 1 leaves behind requests are passed over'])
         self.assertEqual(self.answer(run.replace(' 23 leave 1 board.note\n', ''), trace)[0], target.DIFFERS)
 
-    def test_lines_that_are_none(self):
+    def test_lines_that_are_none(self) -> None:
         for line in ('hello', '3', '3 put', 'x put 1', '3 put x'):
             with self.assertRaises(traces.Fault):
                 self.answer(line + '\n')
 
-    def test_the_last_line_may_be_cut_off(self):
+    def test_the_last_line_may_be_cut_off(self) -> None:
         self.assertEqual(self.answer(STEPS + ' 130 le')[0], target.AGREES)
 
 
 class Logs(unittest.TestCase):
-    def test_the_log_of_a_run_that_agrees_is_its_trace(self):
+    def test_the_log_of_a_run_that_agrees_is_its_trace(self) -> None:
         self.assertEqual(target.log(program(), TRACE, STEPS), TRACE)
 
     def test_what_a_run_does_otherwise_stands_in_its_log(self):
-        self.assertEqual(target.log(program(), TRACE, STEPS.replace(' 33 put 2 2', ' 34 put 2 3')), TRACE.replace('33 put printer 2', '34 put printer 3'))
+        later = STEPS.replace(' 33 put 2 2', ' 34 put 2 3')
+        self.assertEqual(target.log(program(), TRACE, later), TRACE.replace('33 put printer 2', '34 put printer 3'))
 
-    def test_an_end_too_many_has_no_ticks(self):
+    def test_an_end_too_many_has_no_ticks(self) -> None:
         self.assertIn('50 end button used 0\n', target.log(program(), TRACE, STEPS.replace('121 enter', '50 end 3\n 121 enter')))
 
 
 class Responses(unittest.TestCase):
-    def answer(self, run, tick=1000):
+    def answer(self, run: str, tick: int = 1000) -> tuple[int, list[str]]:
         answer = target.compare_responses(program(), TRACE, ARRIVALS, tick, run)
         return answer.status(), answer.lines
 
-    def test_a_run_within_its_bounds(self):
+    def test_a_run_within_its_bounds(self) -> None:
         status, lines = self.answer(SECONDS)
         self.assertEqual(status, target.AGREES)
         self.assertEqual([line.split() for line in lines], [
             'puts: 1 replayed, 1 run, same order'.split(), 'task deadline bound replayed run ends'.split(),
             'button 20 9 7 5.50 1'.split(), 'printer 60 11 2 - 1'.split(), 'sampler 80 26 25 21.25 1'.split()])
 
-    def test_an_end_over_its_bound(self):
+    def test_an_end_over_its_bound(self) -> None:
         status, lines = self.answer(SECONDS.replace('0.0265', '0.0301'))
         self.assertEqual((status, lines[3]), (target.DIFFERS, '   OVER THE BOUND'))
         self.assertEqual(self.answer(SECONDS.replace('0.0265', '0.0300'))[0], target.AGREES)
 
-    def test_a_tick_of_the_design(self):
+    def test_a_tick_of_the_design(self) -> None:
         self.assertEqual(self.answer(SECONDS, 500)[0], target.DIFFERS)
 
-    def test_other_values(self):
+    def test_other_values(self) -> None:
         status, lines = self.answer(SECONDS.replace('put 2 2', 'put 2 3'))
         self.assertEqual((status, lines[1]), (target.DIFFERS, '   printer: OTHER VALUES'))
 
-    def test_a_run_without_lines(self):
+    def test_a_run_without_lines(self) -> None:
         self.assertEqual(self.answer('')[0], target.DIFFERS)
 
 
 class Inputs(unittest.TestCase):
-    def test_ticks(self):
+    def test_ticks(self) -> None:
         self.assertEqual(target.tick_of('DESIGN d VERSION 2 IS TICK = 500 us;'), 500)
         self.assertEqual(target.tick_of('design d version 2 is\ntick=1_0 ms ; -- TICK = 7 s'), 10000)
         self.assertEqual(target.tick_of('-- TICK = 7 s\nDESIGN d IS'), 1000)
 
-    def test_arrivals(self):
+    def test_arrivals(self) -> None:
         self.assertEqual(target.read_arrivals(ARRIVALS), (120, [target.Arrival(21, 'button', 7)]))
         self.assertEqual(target.read_arrivals('until 1_000; at 3 s; At 4 T 1_1;'), (
             1000, [target.Arrival(3, 's', None), target.Arrival(4, 't', 11)]))
         self.assertEqual(target.without_durations(ARRIVALS), 'until 120;\nat 21 button 7;\n')
 
-    def test_equal_priorities_are_refused(self):
+    def test_equal_priorities_are_refused(self) -> None:
         with self.assertRaises(traces.Fault):
             target.read_text((HEAD + example('every_kind.ada')).replace('pragma priority (2)', 'pragma priority (3)'))
 
-    def test_driver(self):
+    def test_driver(self) -> None:
         units = target.driver(HEAD + example('every_kind.ada'), ARRIVALS)
         self.assertEqual(sorted(units), ['hrt_arrivals.adb', 'hrt_arrivals.ads', 'hrt_run.adb'])
         self.assertIn('   task hrt_of_button is\n      pragma priority (3);\n', units['hrt_arrivals.ads'])
@@ -209,7 +216,7 @@ class Inputs(unittest.TestCase):
         with self.assertRaises(traces.Fault):
             target.driver(HEAD + example('every_kind.ada'), 'UNTIL 9; AT 3 sampler;')
 
-    def test_costs_are_paid_before_what_they_are_for(self):
+    def test_costs_are_paid_before_what_they_are_for(self) -> None:
         lines = costed.Coster(example('every_kind.ada')).costed().split('\n')
         text = [line.strip() for line in lines]
         place = text.index('hrt_model.tell ("enter", "board.note" & hrt_model.image (v));')
@@ -220,7 +227,7 @@ class Inputs(unittest.TestCase):
         self.assertEqual(text[place - 4:place], ['hrt_model.pay (hrt.assign_cost);', 'hrt_value := v;', 'hrt_model.pay (hrt.assign_cost);',
                                                  'hrt_open := true;'])
 
-    def test_each_kind_of_statement_pays(self):
+    def test_each_kind_of_statement_pays(self) -> None:
         for statement, wanted in (('null;', 'hrt_model.pay (hrt.null_cost);null;'), ('x := 1;', 'hrt_model.pay (hrt.assign_cost);x := 1;'),
                                   ('exit when x = 1;', 'hrt_model.pay (hrt.test_cost);exit when x = 1;'),
                                   ('q.set (x);', 'hrt_model.pay (hrt.call_cost);q.set (x);'), ('work (3);', 'work (3);'),
@@ -231,7 +238,7 @@ class Inputs(unittest.TestCase):
             out = costed.Coster(text).costed().split('\n')
             self.assertEqual(''.join(out[5:-4]), wanted)
 
-    def test_only_added(self):
+    def test_only_added(self) -> None:
         """A text without what was added is the text itself, but for conditions."""
         for name in ('every_kind.ada', 'units_of_every_kind.ada', 'passive_operation.ada', 'one_cyclic_task.ada'):
             lines = costed.Coster(example(name)).costed().split('\n')
@@ -239,10 +246,10 @@ class Inputs(unittest.TestCase):
 
 
 class Words(unittest.TestCase):
-    def run_target(self, *words):
+    def run_target(self, *words: Any) -> subprocess.CompletedProcess[str]:
         return subprocess.run([sys.executable, os.path.join(HERE, 'target.py'), *words], capture_output=True, text=True)
 
-    def test_statuses(self):
+    def test_statuses(self) -> None:
         with tempfile.TemporaryDirectory() as room:
             paths = {}
             for name, text in (('text', HEAD + example('every_kind.ada')), ('trace', TRACE), ('run', STEPS), ('other', STEPS.replace('35', '36')),
@@ -255,19 +262,19 @@ class Words(unittest.TestCase):
         self.assertEqual(self.run_target('steps').returncode, 2)
         self.assertEqual(self.run_target('tick', 'nowhere.design').returncode, 2)
 
-    def run_script(self, name, *words, **more):
+    def run_script(self, name: str, *words: Any, **more: Any) -> subprocess.CompletedProcess[str]:
         return subprocess.run(['/bin/sh', os.path.join(HERE, name), *words], capture_output=True, text=True, **more)
 
-    def test_usage(self):
+    def test_usage(self) -> None:
         for words in ((), ('-x', 'a', 'b'), ('a', 'b', 'c')):
             answer = self.run_script('run.sh', *words)
             self.assertEqual((answer.returncode, answer.stdout), (2, ''))
             self.assertIn('run.sh [-s]', answer.stderr)
             self.assertIn('Status 0: the run agrees.', answer.stderr)
 
-    def test_a_host_without_gnat(self):
+    def test_a_host_without_gnat(self) -> None:
         with tempfile.TemporaryDirectory() as room:
-            os.symlink(shutil.which('dirname'), os.path.join(room, 'dirname'))
+            os.symlink(str(shutil.which('dirname')), os.path.join(room, 'dirname'))
             for name, words in (('run.sh', ('a.design', 'a.arrivals')), ('measure.sh', ())):
                 answer = self.run_script(name, *words, env={'PATH': room})
                 self.assertEqual((answer.returncode, answer.stdout, answer.stderr),

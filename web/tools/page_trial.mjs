@@ -3,6 +3,7 @@ import { spawnSync } from "node:child_process";
 import { readFileSync, readdirSync } from "node:fs";
 import { dirname, join, resolve } from "node:path";
 import { fileURLToPath } from "node:url";
+import { foundOf } from "../places.js";
 
 export const TOP = dirname(dirname(dirname(fileURLToPath(import.meta.url))));
 export const EXAMPLES = join(TOP, "examples");
@@ -44,26 +45,15 @@ export function hasBackground(design) {
 
 // ---- What the page shows of a refusal ----
 
-export const bare = (text) => text.replace(/--[^\n]*/g, (comment) => " ".repeat(comment.length)).toLowerCase();
-
-/** What is to be marked for a line of standard error: a place in bytes, or a text with what stands before it. */
-export function wantedMark(line, text) {
+/** Where a line of standard error is to be marked: the byte that the program tells, or what tools/report/test_mistakes.mjs tries by hand. */
+export function wantedMark(line, kind, text) {
   const place = /line (\d+) column (\d+)$/.exec(line);
-  if (place !== null) {
-    const lines = text.split("\n").slice(0, Number(place[1]) - 1);
-    return { bytes: Buffer.byteLength(lines.map((one) => `${one}\n`).join("")) + Number(place[2]) - 1 };
+  if (place === null) {
+    const found = foundOf(line, { [kind]: text });
+    return found === null ? null : { bytes: Buffer.byteLength(text.slice(0, found.span.index)), length: found.span.length };
   }
-  const [, code, ...names] = line.replace(" cost ", " ").split(" ");
-  if (code === "Q4") return { marked: /until\s+(\w+)/.exec(bare(text))[1] };
-  if (code.startsWith("Q")) return { line: Number(names[1]) };
-  if (["V06", "V07", "V08", "A2", "A4"].includes(code)) return { marked: names[1] };
-  if (code === "A5") return { marked: "deadline" };
-  if (code === "V13") return names[1] === "thread" ? { marked: "thread" } : { marked: names[1], behind: "operation" };
-  if (code === "V17" && names[0] === "priorities") return { marked: "priorities" };
-  if (code === "V15" && names[0] === "threads") return { marked: "design" };
-  if (code === "V09" && names[0].includes(".")) return { marked: names[0].split(".")[1], behind: "operation" };
-  if (code === "V01" || code === "V02") return { marked: names[0] };
-  return { marked: names[0], behind: "object" };
+  const lines = text.split("\n").slice(0, Number(place[1]) - 1);
+  return { bytes: Buffer.byteLength(lines.map((one) => `${one}\n`).join("")) + Number(place[2]) - 1, length: null };
 }
 
 export async function set(page, texts) {
@@ -84,13 +74,9 @@ export function judgeMark(told, line, kind, name) {
   same([told.line, told.isBad, told.kind], [line, true, kind], `${name}: its line is told and its text marked`);
   judge(told.head.length > 20 && !told.head.includes("refused ") && !/NAME|OTHER|undefined/.test(told.head), `${name}: a sentence: ${told.head}`);
   if (told.kind !== kind) return;
-  const wanted = wantedMark(line, told.text);
-  const before = told.text.slice(0, told.index);
-  if (wanted.bytes !== undefined) same(Buffer.byteLength(before), wanted.bytes, `${name}: ${line} is marked`);
-  else if (wanted.line !== undefined) same(before.split("\n").length, wanted.line, `${name}: ${line} is marked`);
-  else same(told.marked.toLowerCase().replace(/\s+/g, ""), wanted.marked.toLowerCase(), `${name}: ${line} is marked`);
-  if (wanted.behind === undefined) return;
-  judge(new RegExp(`${wanted.behind}\\s+$`).test(bare(before)), `${name}: ${line} is marked at its ${wanted.behind}`);
+  const wanted = wantedMark(line, kind, told.text);
+  same(Buffer.byteLength(told.text.slice(0, told.index)), wanted?.bytes, `${name}: ${line} is marked`);
+  if (wanted?.length) same(told.marked.length, wanted.length, `${name}: ${line} is marked whole`);
 }
 
 /** What the panel of a verb shows, when its answer is there: its sentence, the program's lines, and the cells of its first table. */

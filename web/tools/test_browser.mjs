@@ -10,7 +10,6 @@ import { existsSync, mkdtempSync, readFileSync, readdirSync, rmSync, writeFileSy
 import { tmpdir } from "node:os";
 import { basename, join, resolve } from "node:path";
 import { pathToFileURL } from "node:url";
-import { runInThisContext } from "node:vm";
 import { findBrowser, openBrowser } from "./browser.mjs";
 import { tryBackground, tryTraces, tryVerbTabs } from "./page_tabs.mjs";
 import {
@@ -87,13 +86,11 @@ async function tryVerbs(page) {
 
 // ---- What is refused ----
 
-/** The codes that docs/REFUSALS.md has at the head of a row, but those of `What is no refusal`. */
-function tryCodes() {
-  const rows = readFileSync(join(TOP, "docs/REFUSALS.md"), "utf8").split("\n").filter((line) => line.startsWith("| `refused "));
-  const codes = new Set(rows.flatMap((line) => line.split("|")[1].match(/\b[LSVAUPGQTC]\d+\b/g)));
-  const { PLAIN, BODY } = runInThisContext(`(() => { ${readFileSync(join(TOP, "web/refusals.js"), "utf8")}; return { PLAIN, BODY }; })()`);
-  same(Object.keys(PLAIN).sort(), [...codes].sort(), "the codes of web/refusals.js and of docs/REFUSALS.md");
-  same(Object.keys(BODY).length, 7, "the faults of a body");
+/** The page has the sentences of web/refusals.json, of which the tables of docs/REFUSALS.md are made, and a fault of a body each. */
+async function tryCodes(page) {
+  const data = JSON.parse(readFileSync(join(TOP, "web/refusals.json"), "utf8"));
+  same(await page.evaluate("REFUSALS"), data, "the sentences of the page and of web/refusals.json");
+  same(Object.keys(data.bodies).length, 7, "the faults of a body");
 }
 
 async function tryMarks(page) {
@@ -145,6 +142,52 @@ async function tryFormat(page) {
   await page.until(`document.getElementById("design").value === ${js(wanted)}`, 30);
   await page.evaluate("document.execCommand('undo')");
   same(await page.evaluate("document.getElementById('design').value"), design, "the design as it was before Format");
+}
+
+/** An example, and the design of the help, take the place of typed texts, which Ctrl and Z bring back, also that of a tab that isn't chosen. */
+async function tryBegin(page) {
+  const typed = { design: "DESIGN typed", arrivals: "UNTIL 7;", trace: "0 typed" };
+  const now = () => page.evaluate("textsNow()");
+  const undo = async () => {
+    for (let count = 0; count < 3; count++) {
+      const before = JSON.stringify(await now());
+      await page.evaluate("at('design').focus()");
+      await page.press("z", 2, "KeyZ");
+      await page.until(`JSON.stringify(textsNow()) !== ${js(before)}`, 5);
+    }
+  };
+  const name = await page.evaluate("Object.keys(EXAMPLES).find((one) => EXAMPLES[one].trace !== undefined)");
+  const example = await page.evaluate(`EXAMPLES[${js(name)}]`);
+  for (const tab of ["bounds", "accepts"]) {
+    await set(page, typed);
+    await page.evaluate(`choose(document.getElementById("tab-${tab}"))`);
+    await page.evaluate(`(() => { const pick = at("example"); pick.value = ${js(name)}; pick.dispatchEvent(new Event("change")); })()`);
+    same(await now(), example, "the texts of the example");
+    same(await page.evaluate(`document.activeElement.id + at("panel-accepts").hidden`), `example${tab !== "accepts"}`, "focus and tabs stay");
+    await undo();
+    same(await now(), typed, "what was typed before the example");
+  }
+  await page.evaluate(`at("how").showModal(); at("take").click()`);
+  same((await now()).arrivals, "UNTIL 300;\n", "the arrivals of the help's design");
+  await undo();
+  same(await now(), typed, "what was typed before the design of the help");
+}
+
+/** On paper, which is narrower than the screen, the timeline is drawn whole. */
+async function tryPrinted(page) {
+  await set(page, { design: read("mine_pump.design"), arrivals: read("one_water_alarm.arrivals") });
+  await page.evaluate(`choose(document.getElementById("tab-timeline"))`);
+  const wide = await page.evaluate(`document.querySelector(".holder svg").getBoundingClientRect().width`);
+  await page.page("Emulation.setEmulatedMedia", { media: "print" });
+  const right = await page.evaluate(`(() => {
+    const main = document.querySelector("main");
+    main.style.width = "500px";
+    const { right } = document.querySelector(".holder svg").getBoundingClientRect();
+    main.style.width = "";
+    return right - main.getBoundingClientRect().left;
+  })()`);
+  await page.page("Emulation.setEmulatedMedia", { media: "" });
+  judge(wide > 550 && right > 300 && right <= 530, `the timeline of ${wide} pixels on paper ends at ${right}`);
 }
 
 // ---- The timeline, and what is saved ----
@@ -489,10 +532,9 @@ if (!existsSync(program)) leave(`there is no program ${program}`);
 const browser = await openBrowser(found);
 try {
   console.log(`${await browser.version()}, ${basename(file)}`);
-  tryCodes();
   const page = await browser.open(pathToFileURL(file).href);
   await page.until("document.querySelector('#verdict.good')", 120);
-  const steps = { tryVerbs, tryMarks, tryTyping, tryFormat, tryVerbTabs, tryBackground, tryTraces, tryTimeline, tryWindow, tryLarge, tryMemory,
+  const steps = { tryVerbs, tryCodes, tryMarks, tryTyping, tryFormat, tryBegin, tryPrinted, tryVerbTabs, tryBackground, tryTraces, tryTimeline, tryWindow, tryLarge, tryMemory,
     tryStop, tryKeyboard, tryColours, tryNarrow };
   for (const [name, step] of Object.entries(steps)) await step(page).catch((fault) => judge(false, `${name}: ${fault.message}`));
   await trySaves(browser, page);

@@ -6,6 +6,9 @@
 Traces of a small machine (test_chart.py), and with PROGRAM those of examples/ and of random designs. It wants node 20. Exit status 1 tells that
 something differs, and 2 that there is no node.
 """
+
+from __future__ import annotations
+
 import json
 import os
 import random
@@ -13,6 +16,7 @@ import shutil
 import subprocess
 import sys
 import tempfile
+from typing import Any, Iterable, Iterator
 
 sys.dont_write_bytecode = True
 TOOLS = os.path.dirname(os.path.realpath(__file__))
@@ -59,22 +63,22 @@ for (const line of readFileSync(0, "utf8").split("\\n").filter(Boolean)) {
 """
 
 
-def as_text(value):
+def as_text(value: str | int | None) -> str:
     """A value as the other language writes it."""
     return {None: 'null', True: 'true', False: 'false'}[value] if value is None or isinstance(value, bool) else str(value)
 
 
-def rows(values):
+def rows(values: Iterable[Any]) -> list[str]:
     return sorted(' '.join(map(as_text, row)) for row in values)
 
 
-def of_window(run, start):
+def of_window(run: traces.Run, start: int, window_end: int) -> dict[str, Any]:
     """What traces.py tells of a window, in the form of the page."""
-    def is_seen(since, until):
-        return since <= run.window_end and until >= start
+    def is_seen(since: int, until: float) -> bool:
+        return since <= window_end and until >= start
 
-    def last_shown(a):
-        return float('inf') if a.end is None else max(a.end, a.release + max(a.task.deadline or 0, a.task.bound or 0))
+    def last_shown(a: traces.Activation) -> float:
+        return float('inf') if a.end is None else float(max(a.end, a.release + max(a.task.deadline or 0, a.task.bound or 0)))
 
     return {
         'end': run.end,
@@ -87,19 +91,18 @@ def of_window(run, start):
     }
 
 
-def expected(case):
+def expected(case: dict[str, Any]) -> dict[str, Any]:
     program = traces.read_program(case['ada'])
     runs, totals, last = [], {}, 0
     for start, end in case['windows']:
         run = traces.Run(program, case['lines'], start, end)
-        run.window_end = end
-        runs.append(of_window(run, start))
+        runs.append(of_window(run, start, end))
         totals, last = run.totals, run.last
     counted = rows((name, t.releases, t.ends, t.greatest, t.over_bound) for name, t in totals.items())
     return {'last': last, 'totals': counted, 'runs': runs}
 
 
-def windows_of(last, seed):
+def windows_of(last: int, seed: int) -> list[tuple[int, int]]:
     """All, and some of the windows of a trace."""
     chance = random.Random(seed)
     cut = [(0, last + 1), (0, max(1, last)), (0, 1)]
@@ -109,11 +112,11 @@ def windows_of(last, seed):
     return cut
 
 
-def case_of(name, ada, lines, seed):
+def case_of(name: str, ada: str, lines: list[str], seed: int) -> dict[str, Any]:
     return {'name': name, 'ada': ada, 'lines': lines, 'windows': windows_of(int(lines[-1].split(' ')[0]), seed)}
 
 
-def machine_cases(count):
+def machine_cases(count: int) -> Iterator[dict[str, Any]]:
     for seed in range(count):
         machine = test_chart.Machine(seed).run(150)
         yield case_of('machine %d' % seed, machine.text(), machine.lines, seed)
@@ -121,7 +124,7 @@ def machine_cases(count):
 
 # Random designs
 
-def statements(chance, names, targets):
+def statements(chance: Any, names: Any, targets: Any) -> Any:
     """Some statements of a thread that may call these setters, and request these sporadic objects, once each."""
     out = ['work (%d);' % chance.randint(1, 12)]
     for name in names:
@@ -133,7 +136,7 @@ def statements(chance, names, targets):
     return ' '.join(out)
 
 
-def random_design(seed):
+def random_design(seed: Any) -> Any:
     """A design of some threads and protected objects, and its arrivals. Not all of them meet their times."""
     chance = random.Random(seed)
     stores = ['q%d' % i for i in range(chance.randint(1, 3))]
@@ -148,9 +151,10 @@ def random_design(seed):
         called = [name for name in stores if chance.random() < 0.6]
         target = ['s%d' % i] if chance.random() < 0.4 else []
         needs = ['%s.set;' % name for name in called] + ['%s.go;' % name for name in target]
+        requires = 'REQUIRES ' + ' '.join(needs) if needs else ''
+        offset = chance.randint(0, 30)
         out.append('OBJECT t%d IS CYCLIC ATTRIBUTES PERIOD = %d; OFFSET = %d; DEADLINE = %d; THREAD_BUDGET = 200; %s DATA n : word := 0; '
-                   'THREAD %s END THREAD; END t%d;' % (i, period, chance.randint(0, 30), period, 'REQUIRES ' + ' '.join(needs) if needs else '',
-                                                      statements(chance, called, target), i))
+                   'THREAD %s END THREAD; END t%d;' % (i, period, offset, period, requires, statements(chance, called, target), i))
         for name in target:
             out.append('OBJECT %s IS SPORADIC ATTRIBUTES SEPARATION = %d; DEADLINE = %d; THREAD_BUDGET = 200; PROVIDES go (v : in word) ASER; '
                        'THREAD put (v); work (%d); END THREAD; END %s;' % (name, period, period, chance.randint(1, 9), name))
@@ -162,21 +166,24 @@ def random_design(seed):
     return '\n'.join(out) + '\n', '\n'.join(['UNTIL %d;' % chance.randint(400, 1500), *arrivals]) + '\n'
 
 
-def output(program, *words):
+def output(program: str, *words: str) -> tuple[str, int]:
     done = subprocess.run([program, *words], capture_output=True, text=True)
     return done.stdout, done.returncode
 
 
-def verified_case(program, name, design, arrivals, seed):
+def verified_case(program: str, name: str, design: str, arrivals: str, seed: int) -> dict[str, Any] | None:
     out, status = output(program, 'verify', design, arrivals)
-    return case_of(name, *traces.split_output(out), seed) if status == 0 else None
+    if status != 0:
+        return None
+    ada, lines = traces.split_output(out)
+    return case_of(name, ada, lines, seed)
 
 
-def program_cases(program, count):
+def program_cases(program: str, count: int) -> Iterator[Any]:
     for seed, (design, arrivals) in enumerate(VERIFIED):
         case = verified_case(program, design, os.path.join(EXAMPLES, design), os.path.join(EXAMPLES, arrivals), seed)
         if case is None:
-            sys.exit('try_timeline: %s is refused' % design)
+            sys.exit('test_timeline: %s is refused' % design)
         yield case
     for seed, (ada, arrivals) in enumerate(REPLAYED):
         with open(os.path.join(EXAMPLES, ada)) as stream:
@@ -189,19 +196,19 @@ def program_cases(program, count):
             for path, text in zip(files, random_design(seed)):
                 with open(path, 'w') as stream:
                     stream.write(text)
-            case = verified_case(program, 'random design %d' % seed, *files, seed)
+            case = verified_case(program, 'random design %d' % seed, files[0], files[1], seed)
             if case is not None:
                 yield case
 
 
-def differences(cases):
+def differences(cases: list[dict[str, Any]]) -> Iterator[tuple[str, str]]:
     """The names of the cases of which the two tell something else, with the first thing that differs."""
     lines = '\n'.join(map(json.dumps, cases))
     script = os.path.join(TOP, 'web', 'traces.js')
     done = subprocess.run(['node', '-e', NODE, script], input=lines, capture_output=True, text=True)
     answers = [json.loads(line) for line in done.stdout.splitlines()]
     if len(answers) != len(cases):
-        sys.exit('try_timeline: node answered %d of %d cases: %s' % (len(answers), len(cases), done.stderr[:400]))
+        sys.exit('test_timeline: node answered %d of %d cases: %s' % (len(answers), len(cases), done.stderr[:400]))
     for case, answer in zip(cases, answers):
         wanted = json.loads(json.dumps(expected(case)))
         if answer == wanted:
@@ -212,10 +219,10 @@ def differences(cases):
         yield case['name'], part
 
 
-def main():
+def main() -> None:
     count = int(sys.argv[2]) if sys.argv[1:2] == ['--seeds'] else 200
     if shutil.which('node') is None:
-        print('try_timeline: there is no node, so nothing is tried')
+        print('test_timeline: there is no node, so nothing is tried')
         sys.exit(2)
     cases = list(machine_cases(count))
     program = os.environ.get('PROGRAM')

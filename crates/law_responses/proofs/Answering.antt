@@ -25,7 +25,7 @@ abbrev pub IsAnswered : ℕ → ℕ → Answer → Type 0
 IsAnswered until ticks a = a.0 + ticks ≤ until → (end : ℕ) × (a.1 ≡ Some end) × (end ≤ a.0 + ticks)
 
 -- an end that is there by a time
-over-is : (o : Option ℕ) (time : ℕ) → is_over o time ≡ true → (end : ℕ) × (o ≡ Some end) × (end ≤ time)
+pub over-is : (o : Option ℕ) (time : ℕ) → is_over o time ≡ true → (end : ℕ) × (o ≡ Some end) × (end ≤ time)
 over-is None time e = cc
 over-is (Some end) time e = (end, refl, (let past : end ≤ time = grind arith in past))
 
@@ -57,7 +57,7 @@ all-answered rows v shift l until r row b on_time asks gets =
 abbrev pub Names : Frame → Program → Name → ℕ → Type 0
 Names f p name u = (x : ℕ) → IsOfUnit f x → same_name (unit_name p x) name ≡ (x == u)
 
-ends-named : (f : Frame) (p : Program) (name : Name) (u latest end : ℕ) (es : List machine.Event) → Names f p name u → lists.Each (HasUnit f) es
+pub ends-named : (f : Frame) (p : Program) (name : Name) (u latest end : ℕ) (es : List machine.Event) → Names f p name u → lists.Each (HasUnit f) es
     → next_end u es ≡ Some end → end ≤ latest → EndsBy name latest (named p es)
 ends-named f p name u latest end [] names units e near = absurd (none-some end e)
 ends-named f p name u latest end (event.End time task used ∷ es) names units e near

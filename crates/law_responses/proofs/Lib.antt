@@ -24,6 +24,8 @@ pub mod AskingRequests
 pub mod BaseMoves
 pub mod Moves
 pub mod Answering
+pub mod Resting
+pub mod Using
 pub mod Opening
 pub mod Releasing
 pub mod Seen
@@ -38,5 +40,6 @@ pub mod Blocking
 pub mod Schedules
 pub mod SystemLaw
 pub mod Shared
+mod LevelExamples
 mod ExampleProgram
 mod Example

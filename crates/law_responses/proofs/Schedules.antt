@@ -1,15 +1,12 @@
--- A run that stops at the horizon is a schedule of its table, so that all its activations are on time.
-use Rattle.std.specs.Prelude.{◌≡◌, ℕ, List, length, slice_get, Some}
-use Rattle.std.proofs.Common.{subst, le_refl}
+-- A run that stops at the horizon is a schedule of its table.
+use Rattle.std.specs.Prelude.{◌≡◌, ℕ, List, slice_get, Some}
 use Rattle.arrivals_tree.specs.declared.arrivals.Arrival.{Arrival}
 use Rattle.rt_response.specs.declared.rows.ThreadRow.{ThreadRow}
 use Rattle.rt_response.specs.declared.rows.Bound.{Bound}
-use Rattle.rt_response.specs.Tables.{IsTable}
 use Rattle.rt_response.specs.Response.{Fits}
 use Rattle.machine.specs.States.{Effects, opening}
 use Rattle.machine.specs.Meanings.{run}
-use Rattle.law_schedules.specs.Schedules.{IsSchedule, AllOnTime}
-use Rattle.law_schedules.proofs.Shared.Law.{on-time}
+use Rattle.law_schedules.specs.Schedules.{IsSchedule}
 use Rattle.law_responses.proofs.Logs.{schedule_of}
 use Rattle.law_responses.proofs.Numbers.{within-of, needs-of, uses-of, separate-of}
 use Rattle.law_responses.proofs.Jitters.{jitters-of}
@@ -38,13 +35,3 @@ is-schedule f v as' m fits levels h calm =
       blocks = λ i row first last asks start less inside pending. blocks-of f as' m h f.rows f.shift i row first last (levels i row
           asks) less inside pending;
     }
-
--- all activations of such a run are on time
-pub all-on-time : (f : Frame) (v : List Bound) (as' : List Arrival) (m : ℕ) → IsTable f.rows → Fits f.rows v
-    → ((i : ℕ) (row : ThreadRow) → slice_get f.rows i ≡ Some row → IsLevelled f i row)
-    → (h : History f m (opening f.system as') empty) → ((run f.system m (opening f.system as')).0.phase ≡ Effects → ⊥)
-    → AllOnTime f.rows v (schedule_of f.rows f.shift h.log) (run f.system m (opening f.system as')).0.time
-all-on-time f v as' m table fits levels h calm =
-    subst (AllOnTime f.rows v (schedule_of f.rows f.shift h.log)) h.along.base.clock
-    (on-time f.rows v (schedule_of f.rows f.shift h.log) table fits (is-schedule f v as' m fits levels h calm) (length h.log.ticks)
-    (le_refl (length h.log.ticks)))

@@ -1,2 +1,4 @@
 -- What other crates may cite of the proofs of this one.
+pub mod CostLaw
+pub mod LevelLaw
 pub mod ProgramLaw

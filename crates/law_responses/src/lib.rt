@@ -21,17 +21,23 @@
 //! 7. The law. A run without a stop ends at the horizon (`Stops`), is a schedule (`Schedules`), and its trace tells the releases and ends of
 //!    the log (`Told`, `Answering`): the law for systems (`SystemLaw`). A program gives such a system (`TwinTasks`, `Tabling`,
 //!    `TabledTasks`, `Requesting`, `Positive`): the law for programs (`ProgramLaw`).
+//! 8. Two more laws of the same logs. After any time a level rests within its response time (`Resting`, `LevelLaw`), and an activation uses at
+//!    most the cost of its row (`Using`, `CostLaw`).
 //!
 //! `Example` is a program of three tasks, with a request inside nested sections, that meets all that the law asks, with its table, its bounds
 //! and a run.
 //!
 //! Other crates may cite these proofs of it (`proofs/Shared`):
 //!
+//! - `CostLaw`: in every run of a program with a table, each activation of a task uses at most the cost of its row.
+//! - `LevelLaw`: in every run of a program whose table fits, after any time each level rests within its response time.
 //! - `ProgramLaw`: the response law of the processor: in every run of a program whose table fits, no stop is told and each tabled task
 //!   responds within its bound.
 #![tactic(auto)]
 
 ghost use Rattle.guarantee.specs.ResponseLaw.{ProcessorResponds};
+ghost use Rattle.law_responses.specs.Resting.{LevelsOfTasksRest};
+ghost use Rattle.law_responses.specs.Using.{TasksKeepToCosts};
 ghost use Rattle.std.specs.Prelude.{ℕ};
 
 /// In every run of a readable program under accepted arrivals up to any horizon, where a table fits the program and bounds fit the table:
@@ -40,4 +46,20 @@ ghost use Rattle.std.specs.Prelude.{ℕ};
 /// Rajkumar and Lehoczky 1990).
 pub fn processor_responds()
     ensures { (limit : ℕ) → ProcessorResponds limit }
+{}
+
+/// In every run of a readable program under accepted arrivals, where bounds fit its table: from any time on, a time comes within the response
+/// time of a tabled task by which every activation of that task and of those of higher priority that was released before has ended. So the
+/// busy periods of a level are no longer than its response time (Lehoczky 1990).
+///
+/// `limit` is the farthest horizon allowed, in ticks.
+pub fn levels_of_tasks_rest()
+    ensures { (limit : ℕ) → LevelsOfTasksRest limit }
+{}
+
+/// In every run of a readable program under accepted arrivals, each activation of a tabled task uses at most the cost of its row, in ticks.
+///
+/// No bounds are asked for. `limit` is the farthest horizon allowed, in ticks.
+pub fn tasks_keep_to_costs()
+    ensures { (limit : ℕ) → TasksKeepToCosts limit }
 {}

@@ -20,7 +20,7 @@ use Rattle.rt_response.specs.declared.rows.ThreadRow.{ThreadRow}
 use Rattle.rt_response.specs.declared.rows.Bound.{Bound}
 use Rattle.rt_response.specs.Response.{Fits}
 use Rattle.analysis.specs.Tables.{table}
-use Rattle.guarantee.specs.Software.{Task, software, program_software}
+use Rattle.guarantee.specs.Software.{Task, software}
 use Rattle.guarantee.specs.Events.{named}
 use Rattle.guarantee.specs.Bounded.{Response}
 use Rattle.guarantee.specs.MachineLaw.{IsReadable}

@@ -121,7 +121,7 @@ module _ (p : Program) (a : Arrivals) where
 
 module _ (p : Program) (a : Arrivals) (rules : MeetsRules p) where
   -- exits stand in loops
-  all-written : AreWritten (system p a) (λ i. Anything)
+  pub all-written : AreWritten (system p a) (λ i. Anything)
   all-written = record {
     closed = λ i unit op ss may. by unit op ss (callee (system p a) unit op) (leads-to (system p a) unit op);
     tasks = λ i t at.
@@ -155,7 +155,7 @@ module _ (p : Program) (a : Arrivals) (rules : MeetsRules p) where
       by systems.Unknown h = tt
 
   -- a task's name is that of its unit alone
-  task-names : (ts : List Ranked) (rows : List ThreadRow) (j : ℕ) (t : TaskUnit) → slice_get (system p a).threads j ≡ Some t
+  pub task-names : (ts : List Ranked) (rows : List ThreadRow) (j : ℕ) (t : TaskUnit) → slice_get (system p a).threads j ≡ Some t
       → Names (frame p ts rows a) p t.name t.unit
   task-names ts rows j t at x is = by (thread-at p a j t at) (thread-at p a is.0 is.1 is.2)
     where
@@ -191,7 +191,7 @@ module _ (p : Program) (a : Arrivals) (rules : MeetsRules p) where
     abbrev f : Frame
     f = frame p ts rows a
 
-    framed : IsFramed (frame p ts rows a)
+    pub framed : IsFramed (frame p ts rows a)
     framed = record {
       tabled = λ j r t has at. task-tabled p a rules ts rows tabled j r t has at;
       placed = λ j r has.
@@ -259,9 +259,14 @@ module _ (p : Program) (a : Arrivals) (rules : MeetsRules p) where
                 let less : w.0.priority < found.0.priority = all-at (λ y. w.0.priority < y.priority) ts i found.0 all found.1 in
                 omega (arith, less, priority-is j 0 w.0 w.1)
 
-    responsive : (v : List Bound) → Fits rows v → IsResponsive (frame p ts rows a) v a.items
-    responsive v fit =
+    -- arrivals that are accepted keep apart
+    pub apart : AreKeptApart (system p a).threads [] a.items
+    apart =
         let faults = or_else-none (fault_if (nat_lt limit a.until) Far) (or_else (works_fault p a.work) (requests_fault p [] a.items)) accepted in
+        kept-apart p a [] a.items (or_else-none (works_fault p a.work) (requests_fault p [] a.items) faults.1).1
+
+    pub responsive : (v : List Bound) → Fits rows v → IsResponsive (frame p ts rows a) v a.items
+    responsive v fit =
         record {
           table = tabled.table;
           fits = fit;
@@ -269,7 +274,7 @@ module _ (p : Program) (a : Arrivals) (rules : MeetsRules p) where
           levels = levels;
           ceiled = is-ceiled p a rules tabled.ceilings tabled.inner_ceilings;
           text = all-written;
-          apart = kept-apart p a [] a.items (or_else-none (works_fault p a.work) (requests_fault p [] a.items) faults.1).1;
+          apart = apart;
         }
 
     -- each task of the list responds

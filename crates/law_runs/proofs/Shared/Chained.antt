@@ -1,6 +1,6 @@
 -- Requests of a program whose tasks stand in a table that fits are served at once, and chains of requests respond within their response times
 -- together; so it is in every run of a design's program.
-use Rattle.std.specs.Prelude.{◌≡◌, ℕ, Bool, true, false, List, ◌∷◌, map, slice_get, Option, Some, None, option_map, refl}
+use Rattle.std.specs.Prelude.{◌≡◌, ℕ, true, List, ◌∷◌, map, slice_get, Option, Some, None, option_map, refl}
 use Rattle.std.proofs.Common.{sym, ◌∙◌, ap, subst}
 use Rattle.std.proofs.lemmas.Bool.{false≢true}
 use Rattle.std.proofs.lemmas.Option.{none-some, same_Some, slice_get-map}
@@ -63,7 +63,7 @@ tabled-served-at-once limit p ts rows v r trace readable tabled fits accepted m
     = (known limit p ts rows v r trace readable tabled fits accepted m).2
 
 -- a sporadic task that is served at once
-once-sporadic : (trace : List Event) (name : Name) (timing : Timing) → is_sporadic timing ≡ true → IsServedAtOnce trace name timing
+pub once-sporadic : (trace : List Event) (name : Name) (timing : Timing) → is_sporadic timing ≡ true → IsServedAtOnce trace name timing
     → AreServedAtOnce None (notices name trace)
 once-sporadic trace name (Cyclic period offset) e s = absurd (false≢true e)
 once-sporadic trace name (Sporadic op separation jitter) e s = s

@@ -1,0 +1,6 @@
+mod EarlyRequests
+mod LevelSteps
+mod TabledChains
+mod PrintedChains
+mod Examples
+mod WorkedMine

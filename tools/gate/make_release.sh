@@ -59,8 +59,8 @@ cat >"$release/CHECK.md" <<END
 | What | How it is used |
 |---|---|
 | \`bin/hrthood\` | the proved program, for Linux on x86-64; it needs no other file |
-| \`lafomizana.html\` | the proved program in a page: open it in a browser |
-| \`hrthood.mjs\` | the proved program by node, 20 or later: \`node hrthood.mjs check examples/tank.design\`; it needs \`lafomizana.html\` beside it |
+| \`lafomizana.html\` | a WebAssembly build of the proved program, in a page: open it in a browser |
+| \`hrthood.mjs\` | the same build by node, 20 or later: \`node hrthood.mjs check examples/tank.design\`; it needs \`lafomizana.html\` beside it |
 | \`man/hrthood.1\`, \`completion/hrthood.bash\` | the manual page: \`man -l man/hrthood.1\`; words for bash: \`. completion/hrthood.bash\` |
 | \`examples/\` | designs, arrivals and traces, and what the program answers (\`examples/README.md\`) |
 

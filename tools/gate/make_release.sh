@@ -1,6 +1,6 @@
 #!/bin/sh
-# Writes lafomizana-VERSION.tar.gz, the archive of a release: the proved binary for Linux on x86-64, the page, the program by node, the manual page, the
-# completion for bash, the examples, the changes, checksums, and how to check that the archive is what the sources give (CHECK.md).
+# Writes lafomizana-VERSION.tar.gz, the archive of a release: the proved binary for Linux on x86-64, the page, the program by node, the manual
+# page, the completion for bash, the examples, the changes, checksums, and how to check that the archive is what the sources give (CHECK.md).
 # usage: make_release.sh [--uncommitted] [FOLDER]      FOLDER is out/release where it isn't named
 #
 # It refuses a binary or a page that is not of the current sources (tools/gate/current.sh), and without --uncommitted files that are not committed.

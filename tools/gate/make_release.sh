@@ -1,6 +1,6 @@
 #!/bin/sh
-# Writes lafomizana-VERSION.tar.gz, the archive of a release: the proved binary for Linux on x86-64, the page, the program by node, the manual page, the
-# completion for bash, the examples, the changes, checksums, and how to check that the archive is what the sources give (CHECK.md).
+# Writes lafomizana-VERSION.tar.gz, the archive of a release: the proved binary for Linux on x86-64, the page, the program by node, the manual
+# page, the completion for bash, the examples, the changes, checksums, and how to check that the archive is what the sources give (CHECK.md).
 # usage: make_release.sh [--uncommitted] [FOLDER]      FOLDER is out/release where it isn't named
 #
 # It refuses a binary or a page that is not of the current sources (tools/gate/current.sh), and without --uncommitted files that are not committed.
@@ -59,8 +59,8 @@ cat >"$release/CHECK.md" <<END
 | What | How it is used |
 |---|---|
 | \`bin/hrthood\` | the proved program, for Linux on x86-64; it needs no other file |
-| \`lafomizana.html\` | the proved program in a page: open it in a browser |
-| \`hrthood.mjs\` | the proved program by node, 20 or later: \`node hrthood.mjs check examples/tank.design\`; it needs \`lafomizana.html\` beside it |
+| \`lafomizana.html\` | a WebAssembly build of the proved program, in a page: open it in a browser |
+| \`hrthood.mjs\` | the same build by node, 20 or later: \`node hrthood.mjs check examples/tank.design\`; it needs \`lafomizana.html\` beside it |
 | \`man/hrthood.1\`, \`completion/hrthood.bash\` | the manual page: \`man -l man/hrthood.1\`; words for bash: \`. completion/hrthood.bash\` |
 | \`examples/\` | designs, arrivals and traces, and what the program answers (\`examples/README.md\`) |
 

@@ -12,7 +12,7 @@ log=$top/out/proof.log
 lock=$top/out/proof.lock
 begun=$top/out/proof.begun
 
-# Tells of each library of this list when it is proved, until it is ended.
+# Tells of each library of this list when it is proved, and then of the program, until it is ended.
 show_progress() {
     count=0
     for name in $1; do
@@ -20,6 +20,7 @@ show_progress() {
         until [ -e "$top/crates/$name/out/rlib/stamp" ]; do sleep 1; done
         echo "proved $count of $2: $name"
     done
+    echo 'proving the program itself'
 }
 
 # Whether a proof runs in this clone: this script and `rt` hold the lock until they end.

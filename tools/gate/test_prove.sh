@@ -109,7 +109,8 @@ compare 'nothing is begun by that' "$(ls -d clone/out 2>/dev/null)" ''
 
 run refuse
 compare 'a refusal: status' "$status" 1
-compare 'a refusal' "$(sed 's/, at .*//; s/, from .*//' <<<"$out")" "$(printf '%s\n' 'libraries to prove: 2' 'proving and building the program' 'rt: refuse' 'neither proved nor built: status 1')"
+compare 'a refusal' "$(sed 's/, at .*//; s/, from .*//' <<<"$out")" \
+    "$(printf '%s\n' 'libraries to prove: 2' 'proving and building the program' 'rt: refuse' 'neither proved nor built: status 1')"
 
 for how in wait stubborn; do
     start $how
@@ -137,7 +138,8 @@ compare 'an edit meanwhile' "$(tail -n 1 <<<"$out" | sed 's/; at .*//')" 'proved
 rm -r clone/crates/*/out
 run prove
 compare 'a proof: status' "$status" 0
-compare 'a proof' "$out" "$(printf '%s\n' 'libraries to prove: 2' 'proved 1 of 2: low' 'proved 2 of 2: high' 'proved and built')"
+compare 'a proof' "$out" \
+    "$(printf '%s\n' 'libraries to prove: 2' 'proved 1 of 2: low' 'proved 2 of 2: high' 'proving the program itself' 'proved and built')"
 run refuse
 compare 'a proved program' "$out" 'proved and built already'
 touch -d '1 hour' clone/crates/hrthood/src/lib.rt

@@ -1,7 +1,7 @@
 #!/usr/bin/env bash
-# Tests tools/gate/make_release.sh: two runs give equal bytes, also at another time, with another umask and in a copy of the files with other times; its
-# checksums hold; and its program runs, by itself and by node. Without a proved binary and a page of the current sources it says so, and claims
-# nothing. The last line tells how many were as wanted; status 1 where one wasn't.
+# Tests tools/gate/make_release.sh: two runs give equal bytes, also at another time and with another umask; its checksums hold; and its program
+# runs, by itself and by node. Without a proved binary and a page of the current sources it says so, and claims nothing. The last line tells how
+# many were as wanted; status 1 where one wasn't.
 set -uo pipefail
 
 top=$(CDPATH='' cd -- "$(dirname -- "${BASH_SOURCE[0]}")/../.." && pwd) || exit 1
@@ -46,7 +46,8 @@ mkdir "$room/unpacked"
 tar -xzf "$archive" -C "$room/unpacked"
 cd "$room/unpacked/$name" || exit 1
 compare 'one folder' "$(ls "$room/unpacked")" "$name"
-compare 'its files' "$(printf '%s\n' *)" "$(printf '%s\n' CHANGELOG.md CHECK.md SHA256SUMS VERSION bin completion examples hrthood.mjs lafomizana.html man)"
+compare 'its files' "$(printf '%s\n' *)" \
+    "$(printf '%s\n' CHANGELOG.md CHECK.md SHA256SUMS VERSION bin completion examples hrthood.mjs lafomizana.html man)"
 compare 'its checksums' "$(sha256sum -c SHA256SUMS 2>&1 | grep -cv ': OK$')" 0
 compare 'each file has one' "$(find . -type f ! -name SHA256SUMS | sort)" "$(cut -c 67- SHA256SUMS | sort)"
 compare 'owners and times' "$(tar --numeric-owner --full-time -tvzf "$archive" | awk '{ print $2, $4, $5 }' | sort -u | wc -l)" 1

@@ -11,7 +11,7 @@ cd "$top"
 web/tools/make_page.sh
 failed=0
 if ! cmp out/page/lafomizana.html lafomizana.html; then
-    echo 'test_page: lafomizana.html is not the page of these sources: web/tools/make_page.sh --keep makes and keeps it' >&2
+    echo 'test_page: lafomizana.html is not the page of these sources, which cp out/page/lafomizana.html lafomizana.html keeps' >&2
     failed=1
 fi
 if ! command -v node >/dev/null; then

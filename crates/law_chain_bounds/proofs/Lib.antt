@@ -1,3 +1,4 @@
+pub mod Shared
 mod EarlyRequests
 mod LevelSteps
 mod TabledChains

@@ -1,3 +1,4 @@
 pub mod Requests
 pub mod Levels
 pub mod Printed
+pub mod Served

@@ -6,14 +6,20 @@
 //! level, and such a period is no longer than the response time (`law_responses`). Both are said of each chain that a table has: a row, the row
 //! that starts it, and so on up.
 //!
-//! `specs/Requests.antt` says that requests come before ends, `specs/Levels.antt` what a chain of a level takes, and `specs/Printed.antt` what is
-//! promised of a design.
+//! `specs/Requests.antt` says that requests come before ends, `specs/Levels.antt` what a chain of a level takes, `specs/Printed.antt` what is
+//! promised of a design, and `specs/Served.antt` all of it for one trace.
+//!
+//! Other crates may cite these proofs of it (`proofs/Shared`):
+//!
+//! - `DesignService`: in every run of the program of a design that meets the rules and has bounds, requests are served at once, and chains
+//!   and costs are within bounds.
 #![tactic(auto)]
 
 ghost use Rattle.std.specs.Prelude.{ℕ};
 ghost use Rattle.law_chain_bounds.specs.Levels.{ChainsOfLevelsRespond, TabledChainsKeepToLevels};
 ghost use Rattle.law_chain_bounds.specs.Printed.{LevelsAreWithinSums, PrintedChainsKeepToLevels, PrintedChainsRespond, ThreadsKeepToCosts};
 ghost use Rattle.law_chain_bounds.specs.Requests.{RunsRequestBeforeEnds};
+ghost use Rattle.law_chain_bounds.specs.Served.{DesignsServe};
 
 /// In every run of a program that meets the rules, a request comes a tick or more before each later end of an activation.
 pub fn runs_request_before_ends()
@@ -62,4 +68,12 @@ pub fn levels_are_within_sums()
 /// The arrivals are accepted, and no bounds are asked for. `limit` is the farthest horizon allowed, in ticks.
 pub fn threads_keep_to_costs()
     ensures { (limit : ℕ) → ThreadsKeepToCosts limit }
+{}
+
+/// In every run of the program of a design that meets the rules and has bounds, each request is served at once, each printed chain takes at most
+/// the response time of its thread of lowest priority, and each activation uses at most the cost that is printed.
+///
+/// The arrivals are accepted. `limit` is the farthest horizon allowed, in ticks.
+pub fn designs_serve()
+    ensures { (limit : ℕ) → DesignsServe limit }
 {}

@@ -116,8 +116,12 @@ const VERBS = [
 
 /** The tab of a verb. Its run begins when the tab is chosen, and again when a text that it takes has changed meanwhile. */
 class VerbTab {
-  constructor({ verb, label, takes, file, view, none }) {
-    Object.assign(this, { verb, takes, file, view, none });
+  constructor({ verb, label, takes, file, view, none = undefined }) {
+    this.verb = verb;
+    this.takes = takes;
+    this.file = file;
+    this.view = view;
+    this.none = none;
     this.texts = null; // of the answer that is shown, or on its way
     this.mark = null; // of what it refuses
     this.tab = make("button", { type: "button", role: "tab", id: `tab-${verb}`, "aria-controls": `panel-${verb}` }, label);

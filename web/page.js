@@ -143,12 +143,17 @@ async function answersOf({ design, arrivals }, early) {
 
 // ---- What is shown ----
 
+/** A text whose words between backquotes are shown as words of a design. */
+function withWords(text) {
+  return text.split("`").map((part, place) => (place % 2 === 0 ? part : make("span", { class: "word" }, part)));
+}
+
 /** Tells a sentence, what to look at, and the program's own line. */
 function tell(kind, [head, hint], line, ...more) {
   const verdict = at("verdict");
   verdict.className = kind;
-  const hints = hint === "" ? [] : [make("span", { class: "hint" }, hint)];
-  verdict.replaceChildren(...more, make("strong", {}, head), ...hints, make("code", {}, line));
+  const hints = hint === "" ? [] : [make("span", { class: "hint" }, ...withWords(hint))];
+  verdict.replaceChildren(...more, make("strong", {}, ...withWords(head)), ...hints, make("code", {}, line));
 }
 
 function goButton(mark) {

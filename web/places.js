@@ -14,7 +14,7 @@ import { SECTIONS, objectsOf, readArrivals, readDesign, tokensOf } from "./desig
 /** @typedef {Detail & { span: Span }} Note */
 /** @typedef {{ span: Span, detail: Detail|null, notes: Note[] }} Found */
 /** @typedef {{ names: Map<string, "read"|"written">, object: DesignObject, objects: Map<string, DesignObject>, loops: number }} Scope */
-/** @typedef {{ fault: string, token: Token, detail: Detail|null, notes: Note[] }} BodyFault */
+/** @typedef {{ fault: string, token: Span, detail: Detail|null, notes: Note[] }} BodyFault */
 
 const LIMIT = 1000000000;
 const shown = (/** @type {string} */ word) => word.toUpperCase();
@@ -359,14 +359,14 @@ function callFaults(/** @type {Statement} */ one, /** @type {Scope} */ scope) {
     const like = similarTo(NAME, object.requires.map((use) => `${use.object.word}.${use.op.word}`));
     const place = ["requires", "data", "operation", "thread"].map((word) => object.sections.get(word)).find((section) => section !== undefined);
     const where = place === undefined ? [] : [note(place, "required", { NAME })];
-    const notes = like === null ? where : [note(target, "similar", { NAME: like })];
-    return [{ fault: "B1", token: target, detail: detail("uncalled", { NAME, OBJECT: object.name.word }), notes }];
+    const notes = like === null ? where : [note(from(target, op), "similar", { NAME: like })];
+    return [{ fault: "B1", token: from(target, op), detail: detail("uncalled", { NAME, OBJECT: object.name.word }), notes }];
   }
   const called = scope.objects.get(target.word)?.provides.find(({ name }) => name.word === op.word);
   if (called === undefined) return [];
   /** @type {BodyFault[]} */
   const faults = called.params.length === one.parts.length ? []
-    : [{ fault: "B7", token: target, detail: null, notes: [note(called.name, "provided", { NAME })] }];
+    : [{ fault: "B7", token: from(target, op), detail: null, notes: [note(called.name, "provided", { NAME })] }];
   const outs = new Set();
   for (const [place, part] of one.parts.entries()) {
     const isOut = called.params[place]?.mode.word === "out";

@@ -140,7 +140,7 @@ export class Refusals {
     if (line === "no memory") return ["There is not enough memory in this page.", ""];
     const told = this.toldOf(line, texts);
     if (told === null) return [line, ""];
-    const notes = told.notes.map(({ place, says }) => `Line ${place.line}: ${says}`);
+    const notes = told.notes.map(({ place, says }) => (place.line === told.place?.line ? says : `Line ${place.line}: ${says}`));
     return [told.says, [...told.more, ...notes].join(" ")];
   }
 }

@@ -185,9 +185,9 @@ class VerbTab {
     const isOther = this.verb === "accepts" && backgroundOf(given.design).length > 0;
     return [
       ...goButton(this.mark).map((button) => make("div", { class: "tools" }, button)),
-      make("p", {}, make("b", {}, head)),
+      make("p", {}, make("b", {}, ...withWords(head))),
       ...why,
-      make("p", {}, isOther ? NO_MACHINE : hint),
+      make("p", {}, ...withWords(isOther ? NO_MACHINE : hint)),
       make("pre", { class: "text" }, line),
     ];
   }

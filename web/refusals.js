@@ -82,7 +82,7 @@ export class Refusals {
     const mend = [detail === null && entry.look !== undefined && fault === undefined ? this.fill(entry.look, values) : "",
       isGeneral ? this.fill(entry.do ?? fault?.do ?? "", values) : ""];
     const ofText = this.textWords(line, texts, found);
-    const causes = detail === null && entry.causes !== undefined && found === null ? [`It comes of one of these: ${entry.causes.join("; ")}.`] : [];
+    const causes = detail === null && entry.causes !== undefined && found === null ? [`It has one of these causes: ${entry.causes.join("; ")}.`] : [];
     if (ofText !== null) return ofText;
     if (found?.notes.some(({ key }) => key === "similar")) return { says: detail === null ? general : this.detail(detail), more: [] };
     return { says: detail === null ? general : this.detail(detail), more: [...mend, ...causes].filter((one) => one !== "") };

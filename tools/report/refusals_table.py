@@ -47,7 +47,7 @@ def refusals(entries: list[dict[str, Any]]) -> str:
     made = table('| On standard error | What it says | What to look at, and to do |', rows)
     for one in entries:
         if 'causes' in one:
-            made += f'\n{line_of(one["line"])} comes of one of these:\n\n' + ''.join(f'- {plain(cause)};\n' for cause in one['causes'])
+            made += f'\n{line_of(one["line"])} has one of these causes:\n\n' + ''.join(f'- {plain(cause)};\n' for cause in one['causes'])
             made = made[:-2] + '.\n'
     return made
 
@@ -57,7 +57,7 @@ def tables(data: dict[str, Any]) -> dict[str, str]:
     made = {name: refusals(entries) for name, entries in data['tables'].items()}
     made['bodies'] = table('| Fault | What is wrong | What to do |',
                            [[fault, plain(one['says']), plain(one['do'])] for fault, one in data['bodies'].items()])
-    made['hints'] = table('| What stands at the place | What is meant most often |',
+    made['hints'] = table('| At the place | Usual cause |',
                           [[plain(one['shown']), plain(one['says'])] for one in data['hints'] if 'shown' in one])
     return made
 

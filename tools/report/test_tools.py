@@ -6,9 +6,7 @@
 PROGRAM is the path of the program, and the proved program of this repository where it isn't set. Without one, and without bash, the tests that
 need it are skipped, which is told. No part of the gate.
 """
-
-from __future__ import annotations
-
+import csv
 import importlib.util
 import os
 import re
@@ -347,12 +345,29 @@ class Crates(unittest.TestCase):
         self.assertEqual(above.all_above(['low'], below), {'low', 'middle', 'high'})
         self.assertEqual(above.all_above(['high'], below), {'high'})
 
+    def test_seconds(self) -> None:
+        above = load('above', SOURCE)
+        with tempfile.TemporaryDirectory() as room:
+            path = os.path.join(room, 'crates.csv')
+            with open(path, 'w') as out:
+                out.write('crate,proof,tests,edits\nlow,3,0,40\nhigh,5,,\n')
+            self.assertEqual(above.read_seconds(path), {'low': 43, 'high': 5})
+
     def test_every_crate_is_told(self) -> None:
         status, out, _ = run([sys.executable, os.path.join(SOURCE, 'above.py'), 'seq_tree'])
         self.assertEqual(status, 0)
         self.assertRegex(out, r'\d+ seq_tree\n')
         status, _, err = run([sys.executable, os.path.join(SOURCE, 'above.py'), 'nothing'])
         self.assertEqual((status, err), (1, 'above.py: nothing is no crate of crates.txt\n'))
+
+    def test_decisions(self) -> None:
+        with open(os.path.join(TOP, 'docs', 'DECISIONS.md'), encoding='utf-8') as text:
+            entries = re.findall(r'^`([a-z-]+)`: ', text.read(), re.M)
+        self.assertEqual(len(entries), len(set(entries)))
+        with open(os.path.join(TOP, 'docs', 'decisions_map.csv'), encoding='utf-8', newline='') as text:
+            rows = list(csv.DictReader(text))
+        self.assertEqual({row['where'] for row in rows if row['state'] == 'entry'} - set(entries), set())
+        self.assertEqual([row for row in rows if row['state'].startswith(('docstring', 'page to')) and not row['text']], [])
 
     def test_doors(self) -> None:
         script = os.path.join(SOURCE, 'doors.py')
@@ -384,6 +399,9 @@ class Crates(unittest.TestCase):
         self.assertFalse(rules.is_there('design_rules.Clash'))
         self.assertFalse(rules.is_there('ods_names::first_clas'))
         self.assertFalse(rules.is_there('ods_names/src/clash.rt'))
+        self.assertTrue(rules.is_there('docs/RULES.md'))
+        self.assertFalse(rules.is_there('docs/RULE.md'))
+        self.assertIsNone(rules.is_there('out/page/lafomizana.html'))
         self.assertEqual(list(rules.row_faults(1, '| V01 | names | `nothing.rt` |', set())), ['RULES.md:1: there is no test nothing.rt'])
         self.assertEqual(list(rules.row_faults(1, '| V01 | names | `arrivals.rt` |', set())), ['RULES.md:1: arrivals.rt has no row with V01'])
 

@@ -3,23 +3,23 @@
 
     above.py CRATE ..
 
-Prints the crates that stand on these, directly or through others, each with the processor seconds that docs/GATE.md has for its proof, its tests and
-its edits, and their sum. An edit of a body alone proves the crates above again too. A crate without a row there is told as such.
+Prints the crates that depend on these, directly or through others, each with the processor seconds that docs/gate/crates.csv has for its
+proof, its tests and its edits, and their sum. An edit of a body alone proves the crates above again too. A crate without a row there is
+printed with a question mark.
 """
-
 from __future__ import annotations
 
+import csv
 import os
-import re
 import sys
 
 TOP = os.path.dirname(os.path.dirname(os.path.dirname(os.path.abspath(__file__))))
 
 
 def read_below(path: str) -> dict[str, list[str]]:
-    """For each crate of crates.txt the crates on which it stands directly."""
+    """Return for each crate of crates.txt the crates on which it depends directly."""
     below = {}
-    with open(path) as text:
+    with open(path, encoding='utf-8') as text:
         for line in text:
             name, colon, libraries = line.partition('#')[0].partition(':')
             if colon:
@@ -28,18 +28,13 @@ def read_below(path: str) -> dict[str, list[str]]:
 
 
 def read_seconds(path: str) -> dict[str, int]:
-    """For each crate with a row in the table of docs/GATE.md its processor seconds."""
-    seconds = {}
-    with open(path) as text:
-        for line in text:
-            row = re.fullmatch(r'\| (\w+) \| *(\d*) *\| *(\d*) *\| *(\d*) *\|', line.strip())
-            if row:
-                seconds[row[1]] = sum(int(number) for number in row.groups()[1:] if number)
-    return seconds
+    """Return for each crate with a row in the CSV file its processor seconds: proof, tests and edits."""
+    with open(path, encoding='utf-8', newline='') as text:
+        return {row['crate']: sum(int(row[part] or 0) for part in ('proof', 'tests', 'edits')) for row in csv.DictReader(text)}
 
 
 def all_above(changed: list[str], below: dict[str, list[str]]) -> set[str]:
-    """These crates and all that stand on them."""
+    """Return these crates and all that depend on them."""
     again = set(changed)
     while True:
         more = {name for name, libraries in below.items() if again & set(libraries)} - again
@@ -49,8 +44,9 @@ def all_above(changed: list[str], below: dict[str, list[str]]) -> set[str]:
 
 
 def main() -> None:
+    """Print the crates above those of the arguments, with their seconds."""
     below = read_below(os.path.join(TOP, 'crates.txt'))
-    seconds = read_seconds(os.path.join(TOP, 'docs', 'GATE.md'))
+    seconds = read_seconds(os.path.join(TOP, 'docs', 'gate', 'crates.csv'))
     changed = sys.argv[1:]
     if not changed:
         sys.exit(__doc__)

@@ -1,46 +1,53 @@
 #!/usr/bin/env python3
-"""Looks whether what the pages say of rules and of places in the crates is there.
+"""Check that what the pages say of rules and of names in the crates is there.
 
-It says where a crate has no row in docs/ARCHITECTURE.md; where a code of the definitions of messages (hrthood_top/specs/Messages and Searches) has
-no row in docs/RULES.md, or is not told of in docs/REFUSALS.md; where a page of PAGES names a definition, a call or a file of a crate that isn't
-there; and where a test of a row of RULES.md doesn't have the row's code. Exit status 1 tells that it said something.
+Reports
+
+- a crate without a row in docs/ARCHITECTURE.md;
+- a code of the definitions of messages (hrthood_top/specs/Messages, Searches and Acceptances) without a row in docs/RULES.md, or that
+  docs/REFUSALS.md does not mention;
+- a definition, a function or a file that a page of PAGES names and that does not exist;
+- a test of a row of RULES.md that does not have the row's code.
+
+The exit status is 1 if something was reported.
 """
-
 from __future__ import annotations
 
 import os
 import re
 import sys
-from typing import Iterator
+from typing import Iterator, Optional
 
 TOP = os.path.dirname(os.path.dirname(os.path.dirname(os.path.abspath(__file__))))
 CRATES = os.path.join(TOP, 'crates')
 TESTS = os.path.join(CRATES, 'hrthood', 'src', 'tests')
-PAGES = ('README.md', 'docs/RULES.md', 'docs/CHANGING.md', 'docs/ARCHITECTURE.md', 'docs/GUARANTEE.md', 'docs/TESTED.md')
+PAGES = ('README.md', 'docs/RULES.md', 'docs/CHANGING.md', 'docs/ARCHITECTURE.md', 'docs/GUARANTEE.md', 'docs/TESTED.md', 'docs/DECISIONS.md',
+         'docs/GATE.md', 'docs/PAGE.md', 'docs/assurance/README.md', 'bench/README.md', 'web/README.md')
 CODE = r'[A-Z]\d{1,2}'
 
 
 def read(*path: str) -> str:
+    """Return the text of a file."""
     with open(os.path.join(*path)) as text:
         return text.read()
 
 
 def codes_told() -> set[str]:
-    """The codes that messages begin with, or have as the code of a limit, a rule or a body."""
+    """Return the codes that messages begin with, or have as the code of a limit, a rule or a body."""
     texts = [read(CRATES, 'hrthood_top', 'specs', module) for module in ('Messages.antt', 'Searches.antt', 'Acceptances.antt')]
     return set(re.findall(rf'codes "(?:refused )? ?({CODE})\b', '\n'.join(texts))) | {'C1'}
 
 
 def sources(crate: str) -> Iterator[str]:
-    """The texts of the code of a crate."""
+    """Yield the texts of the code of a crate."""
     for folder, _, files in os.walk(os.path.join(CRATES, crate, 'src')):
         for file in files:
             if file.endswith('.rt'):
                 yield read(folder, file)
 
 
-def is_there(span: str) -> bool | None:
-    """Whether what a span of the page names is there; None where it names nothing of the crates."""
+def is_there(span: str) -> Optional[bool]:
+    """Return whether what a span of a page names exists, and None if it names nothing of the repository."""
     definition = re.fullmatch(r'([a-z0-9_]+)\.([A-Z]\w*)(?:\.(\w+))?', span)
     call = re.fullmatch(r'([a-z0-9_]+)::(?:[A-Z]\w*::)?([a-z]\w*)', span)
     file = re.fullmatch(r'([a-z0-9_]+)/(\w+/[\w/]+\.\w+)', span)
@@ -52,13 +59,15 @@ def is_there(span: str) -> bool | None:
         return name is None or re.search(rf'^ *(?:abbrev )?(?:pub )?(?:data |record )?{name}\b', read(path), re.M) is not None
     if call:
         return any(re.search(rf'\bfn {call[2]}\b', text) for text in sources(call[1]))
-    if file:
+    if re.fullmatch(r'(?:docs|tools|web|bench|man|completion)/[\w./-]+', span):
+        return os.path.exists(os.path.join(TOP, span))
+    if file and file[1] != 'out':
         return os.path.exists(os.path.join(CRATES, file[1], file[2])) or os.path.exists(os.path.join(TOP, span))
     return None
 
 
 def row_faults(number: int, line: str, seen: set[str]) -> Iterator[str]:
-    """What is wrong with a row, and its code into `seen`."""
+    """Yield what is wrong with a row, and add its code to `seen`."""
     code = re.match(rf'\| ({CODE})\b', line)
     if not code:
         return
@@ -72,9 +81,9 @@ def row_faults(number: int, line: str, seen: set[str]) -> Iterator[str]:
 
 
 def crate_faults() -> Iterator[str]:
-    """Crates without a row in the table of docs/ARCHITECTURE.md, and rows without a crate."""
+    """Yield crates without a row in the table of docs/ARCHITECTURE.md, and rows without a crate."""
     crates = {line.partition(':')[0].split()[0] for line in read(TOP, 'crates.txt').split('\n') if re.match(r'\w', line)}
-    table = read(TOP, 'docs', 'ARCHITECTURE.md').partition('| Crate | Has | Its door |')[2].partition('\n\n')[0]
+    table = read(TOP, 'docs', 'ARCHITECTURE.md').partition('| Crate | Has | Public interface |')[2].partition('\n\n')[0]
     rows = set(re.findall(r'^\| (\w+) \|', table, re.M))
     for crate in sorted(crates - rows):
         yield f'docs/ARCHITECTURE.md: {crate} has no row'
@@ -83,6 +92,7 @@ def crate_faults() -> Iterator[str]:
 
 
 def faults() -> Iterator[str]:
+    """Yield a line for each fault."""
     yield from crate_faults()
     told = codes_told()
     seen: set[str] = set()
@@ -106,6 +116,7 @@ def faults() -> Iterator[str]:
 
 
 def main() -> None:
+    """Print the faults; exit with 1 if there is one."""
     found = list(faults())
     for fault in found:
         print(fault)

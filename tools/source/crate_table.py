@@ -1,14 +1,13 @@
 #!/usr/bin/env python3
-"""The table of the crates in docs/ARCHITECTURE.md, made from the heads of their root files.
+"""Make the table of the crates in docs/ARCHITECTURE.md from the heads of their root files.
 
-    crate_table.py          fails where that page has another one
-    crate_table.py --write  puts it into that page
-    crate_table.py --print  prints it
+    crate_table.py          fail if that page has another one
+    crate_table.py --write  write it into that page
+    crate_table.py --print  print it
 
-A row has the crate, the first sentence of its head, and its door: the functions and types that its root file makes public. Crates come in the
-order of crates.txt.
+A row has the crate, the first sentence of its head, and the functions and types that its root file makes public. Crates come in the order
+of crates.txt.
 """
-
 from __future__ import annotations
 
 import os
@@ -22,12 +21,13 @@ MOST = 8
 
 
 def read(path: str) -> str:
+    """Return the text of a file."""
     with open(path, encoding='utf-8') as text:
         return text.read()
 
 
 def crates() -> Iterator[str]:
-    """The names in crates.txt, in its order."""
+    """Yield the names in crates.txt, in its order."""
     for line in read(f'{top}/crates.txt').split('\n'):
         line = line.split('#')[0]
         if ':' in line:
@@ -35,6 +35,7 @@ def crates() -> Iterator[str]:
 
 
 def root_of(crate: str) -> str:
+    """Return the text of the root file of a crate."""
     for name in ('lib.rt', 'main.rt'):
         path = f'{top}/crates/{crate}/src/{name}'
         if os.path.isfile(path):
@@ -43,6 +44,7 @@ def root_of(crate: str) -> str:
 
 
 def first_sentence(crate: str, text: str) -> str:
+    """Return the first sentence of the head of a root file."""
     head = []
     for line in text.split('\n'):
         if not line.startswith('//!') or line == '//!':
@@ -54,7 +56,8 @@ def first_sentence(crate: str, text: str) -> str:
     return found.group(1).replace('|', r'\|')
 
 
-def door(text: str) -> str:
+def interface(text: str) -> str:
+    """Return the functions and types that a root file makes public, at most MOST of them by name."""
     names = re.findall(r'^pub (?:unsafe |extern "C" )?fn (\w+)', text, re.M)
     for group in re.findall(r'^pub use [\w:]+::(\{[^}]*\}|\w+);', text, re.M):
         names += [name.strip() for name in group.strip('{}').split(',') if name.strip()]
@@ -68,22 +71,24 @@ def door(text: str) -> str:
 
 
 def table() -> str:
-    rows = ['| Crate | Has | Its door |', '|---|---|---|']
+    """Return the table."""
+    rows = ['| Crate | Has | Public interface |', '|---|---|---|']
     for crate in crates():
         text = root_of(crate)
-        rows.append(f'| {crate} | {first_sentence(crate, text)} | {door(text)} |')
+        rows.append(f'| {crate} | {first_sentence(crate, text)} | {interface(text)} |')
     return '\n'.join(rows) + '\n'
 
 
 def in_page(text: str) -> tuple[int, int]:
-    """Where the table stands in the page."""
-    found = re.search(r'^\| Crate \| Has \| Its door \|\n(?:\|.*\n)+', text, re.M)
+    """Return where the table begins and ends in the page."""
+    found = re.search(r'^\| Crate \| Has \| Public interface \|\n(?:\|.*\n)+', text, re.M)
     if not found:
         sys.exit('crate_table.py: docs/ARCHITECTURE.md has no table of the crates')
     return found.span()
 
 
 def main(words: list[str]) -> None:
+    """Print, write or check the table."""
     if words == ['--print']:
         print(table(), end='')
         return
@@ -94,8 +99,7 @@ def main(words: list[str]) -> None:
             it.write(text[:begin] + table() + text[end:])
     elif not words:
         if text[begin:end] != table():
-            sys.exit('crate_table.py: the table of the crates in docs/ARCHITECTURE.md is not that of their root files; '
-                     'tools/source/crate_table.py --write mends it')
+            sys.exit('crate_table.py: docs/ARCHITECTURE.md is out of date: run tools/source/crate_table.py --write')
         print(f'crate_table.py: {table().count(chr(10)) - 2} crates, all as in docs/ARCHITECTURE.md')
     else:
         sys.exit(__doc__)

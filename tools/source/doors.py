@@ -1,15 +1,14 @@
 #!/usr/bin/env python3
-"""Which modules of a crate's proofs/ and specs/ other crates cite.
+"""List which modules of a crate's proofs/ and specs/ other crates cite.
 
     doors.py [CRATE ..]
     doors.py --closed
 
-For each crate, or those named: how many of its modules of specs/ are cited from other crates, and each module of proofs/ that is, with the number
-of crates that cite it. A module that is not listed can be changed without a look outside. With --closed: each citation from another crate of a
-module of proofs/ that doesn't stand in proofs/Shared/, and each module there that its crate's head in lib.rt doesn't name; the status is 1 where
-there is one. It reads texts alone, and proves nothing.
+For each crate, or those named: how many of its modules of specs/ are cited from other crates, and each module of proofs/ that is, with the
+number of crates that cite it. A module that is not listed can be changed without a look outside. With --closed: each citation from another
+crate of a module of proofs/ that is not in proofs/Shared/, and each module there that its crate's head in lib.rt does not name; the exit
+status is 1 if there is one. It only reads texts.
 """
-
 from __future__ import annotations
 
 import collections
@@ -24,8 +23,8 @@ SHARED = 'Shared.'
 
 
 def citations(names: list[str]) -> dict[tuple[str, str, str], set[str]]:
-    """For each module of specs/ or proofs/ the other crates that name it."""
-    cited = collections.defaultdict(set)
+    """Return for each module of specs/ or proofs/ the other crates that name it."""
+    cited: dict[tuple[str, str, str], set[str]] = collections.defaultdict(set)
     for crate in names:
         for part in ('src', 'specs', 'proofs', 'must-fail', 'more-edits'):
             for folder, _, files in os.walk(os.path.join(CRATES, crate, part)):
@@ -39,14 +38,14 @@ def citations(names: list[str]) -> dict[tuple[str, str, str], set[str]]:
 
 
 def modules_of(crate: str, part: str) -> list[str]:
-    """The modules of a crate's specs/, or of another folder of it."""
+    """Return the modules of a crate's specs/, or of another folder of it."""
     folder = os.path.join(CRATES, crate, part)
     files = os.listdir(folder) if os.path.isdir(folder) else []
     return sorted(file[:-5] for file in files if file.endswith('.antt') and file != 'Lib.antt')
 
 
 def open_doors(names: list[str]) -> list[str]:
-    """A line for each citation past proofs/Shared/, and for each module there that the head of lib.rt doesn't name."""
+    """Return a line for each citation past proofs/Shared/, and for each module there that the head of lib.rt doesn't name."""
     lines = []
     for (of, kind, module), by in sorted(citations(names).items()):
         if kind == 'proofs' and not module.startswith(SHARED):
@@ -62,11 +61,12 @@ def open_doors(names: list[str]) -> list[str]:
 
 
 def main() -> None:
+    """Print the citations, or those that are not allowed."""
     names = sorted(os.listdir(CRATES))
     asked = sys.argv[1:]
     if asked == ['--closed']:
         lines = open_doors(names)
-        print('\n'.join(lines) if lines else 'doors.py: other crates cite of proofs/ what stands in proofs/Shared/ alone')
+        print('\n'.join(lines) if lines else 'doors.py: other crates cite only proofs/Shared/ of proofs/')
         sys.exit(1 if lines else 0)
     for crate in asked:
         if crate not in names:

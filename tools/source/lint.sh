@@ -45,7 +45,7 @@ types=(--noEmit --allowJs --checkJs --target es2022 --module es2022 --moduleReso
 
 lint 'shell' shellcheck -x -P SCRIPTDIR -- "${shell[@]}"
 lint 'Python' flake8 --max-line-length 150 -- "${python[@]}"
-MYPYPATH=tools/report lint 'Python' mypy --strict --ignore-missing-imports -- "${python[@]}"
+MYPYPATH=tools/report lint 'Python' mypy --cache-dir out/mypy --strict --ignore-missing-imports -- "${python[@]}"
 lint 'the page' tsc "${types[@]}" --lib es2022,dom,dom.iterable -- web/globals.d.ts "${page[@]}"
 lint 'words and places' tsc "${types[@]}" --strict --lib es2022,dom -- "${told[@]}"
 lint 'the worker' tsc "${types[@]}" --lib es2022,webworker -- "${host[@]}"

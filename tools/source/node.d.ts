@@ -5,10 +5,13 @@ declare module "node:child_process" {
 }
 declare module "node:fs" {
   export const accessSync: any;
+  export const closeSync: any;
   export const constants: any;
   export const existsSync: any;
   export const mkdtempSync: any;
+  export const openSync: any;
   export const readFileSync: any;
+  export const readSync: any;
   export const readdirSync: any;
   export const realpathSync: any;
   export const rmSync: any;
@@ -35,9 +38,15 @@ declare module "node:process" {
   export const pid: any;
   export const stderr: any;
 }
+declare module "node:tty" {
+  export const isatty: any;
+}
 declare module "node:url" {
   export const fileURLToPath: any;
   export const pathToFileURL: any;
+}
+declare module "node:v8" {
+  export const setFlagsFromString: any;
 }
 declare module "node:vm" {
   export const runInThisContext: any;

@@ -1,18 +1,17 @@
 #!/usr/bin/env python3
-"""Runs the commands that the pages show, and compares what they write with what stands below them.
+"""Run the commands that the pages show, and compare what they write with the lines below them.
 
     test_docs.py [--update] [PAGE ..]
 
-Pages are Markdown files, README.md and docs/*.md where none is named. In a fenced block without a language each line that begins with
-`$ ` is a command, and the lines up to the next one are what it is to write, on standard output and standard error together; a line `...`
-stands for any lines. A block behind a line "The file `NAME`:" is the text of that file. A block with a language, as ```sh, is not run, nor
-one behind a comment `<!-- not run: REASON -->`, as of what differs from host to host.
+Pages are Markdown files, by default README.md and docs/*.md. In a fenced block without a language each line that begins with `$ ` is a
+command, and the lines up to the next one are what it must write, on standard output and standard error together; a line `...` matches any
+lines. A block after a line "The file `NAME`:" is the text of that file. A block with a language, as ```sh, is not run, nor one after a
+comment `<!-- not run: REASON -->`, for example because its output differs from host to host.
 
-Each page has a folder of its own, with links to `hrthood`, `examples`, `tools` and the like, in which its blocks run from the first to the last.
-PROGRAM is the path of the program, and the proved program of this repository where it isn't set. With --update the pages get what was written,
-where no line is left out. No part of the gate. Exit status 1 tells that something differs, and 2 that there is no program.
+Each page has its own folder, with links to `hrthood`, `examples`, `tools` and the like, in which its blocks run from the first to the last.
+PROGRAM is the path of the program, by default the proved program of this repository. With --update the pages get the new output, except
+where lines are left out. Not part of the gate. The exit status is 1 if something differs, and 2 if there is no program.
 """
-
 from __future__ import annotations
 
 import os
@@ -20,15 +19,17 @@ import re
 import subprocess
 import sys
 import tempfile
+from typing import Optional
 
 TOP = os.path.dirname(os.path.dirname(os.path.dirname(os.path.abspath(__file__))))
 LINKS = ('examples', 'tools', 'completion', 'man', 'docs', 'crates', 'crates.txt', 'README.md')
 
 
-def blocks_of(lines: list[str]) -> list[tuple[str | None, bool, int, int]]:
-    """The fenced blocks of a page: the file that each is the text of (or None), whether it may be run, and the lines from one to another."""
-    found = []
-    named, is_run = None, True
+def blocks_of(lines: list[str]) -> list[tuple[Optional[str], bool, int, int]]:
+    """Return the fenced blocks of a page: the file whose text it is (if any), whether it may be run, and where its lines begin and end."""
+    found: list[tuple[Optional[str], bool, int, int]] = []
+    named: Optional[str] = None
+    is_run = True
     place = 0
     while place < len(lines):
         line = lines[place]
@@ -52,7 +53,7 @@ def blocks_of(lines: list[str]) -> list[tuple[str | None, bool, int, int]]:
 
 
 def commands_of(lines: list[str]) -> list[tuple[list[str], list[str]]]:
-    """The commands of a block: each with its own lines' number, and the lines that it is to write."""
+    """Return the commands of a block: the lines of each, and the lines that it must write."""
     commands = []
     place = 0
     while place < len(lines):
@@ -72,20 +73,20 @@ def commands_of(lines: list[str]) -> list[tuple[list[str], list[str]]]:
 
 
 def fits(wanted: list[str], written: list[str]) -> bool:
-    """Whether these lines are written, where `...` stands for any lines."""
+    """Return whether the lines match, where `...` matches any lines."""
     pattern = ''.join('(?:.*\n)*' if line == '...' else re.escape(line) + '\n' for line in wanted)
     return re.fullmatch(pattern, ''.join(line + '\n' for line in written)) is not None
 
 
 def run(typed: list[str], room: str) -> list[str]:
-    """What a command writes, as lines."""
+    """Return the lines that a command writes."""
     done = subprocess.run(['bash', '-c', '\n'.join(typed)], cwd=room, stdin=subprocess.DEVNULL, stdout=subprocess.PIPE,
                           stderr=subprocess.STDOUT, timeout=600)
     return done.stdout.decode(errors='replace').splitlines()
 
 
 def find_program() -> str:
-    """The path of the program, which scripts find in PROGRAM too. A run without proof would take a minute for each command."""
+    """Return the path of the program, which scripts find in PROGRAM too. A run without proof would take a minute for each command."""
     program = os.path.abspath(os.environ.get('PROGRAM', os.path.join(TOP, 'crates', 'hrthood', 'out', 'hrthood')))
     if not os.access(program, os.X_OK):
         print(f'test_docs.py: there is no program {program}: run tools/gate/prove_program.sh, or set PROGRAM', file=sys.stderr)
@@ -95,7 +96,7 @@ def find_program() -> str:
 
 
 def make_room(room: str) -> None:
-    """Links what commands use to a folder."""
+    """Link what commands use into a folder."""
     os.symlink(os.environ['PROGRAM'], os.path.join(room, 'hrthood'))
     for name in LINKS:
         if os.path.exists(os.path.join(TOP, name)):
@@ -103,7 +104,7 @@ def make_room(room: str) -> None:
 
 
 def try_block(lines: list[str], room: str, page: str, begin: int) -> tuple[list[str], int, int]:
-    """The lines of a block as they come out, how many commands it has, and how many of them differ."""
+    """Return the lines of a block with what its commands write, how many commands it has, and how many of them differ."""
     out: list[str] = []
     wrong = 0
     commands = commands_of(lines)
@@ -120,7 +121,7 @@ def try_block(lines: list[str], room: str, page: str, begin: int) -> tuple[list[
 
 
 def try_page(page: str, update: bool) -> tuple[int, int, int, int]:
-    """How many commands of a page were run, how many differ, how many files it gives, and how many blocks were not run."""
+    """Return how many commands of a page were run, how many differ, how many files it gives, and how many blocks were not run."""
     with open(page) as text:
         lines = text.read().split('\n')
     ran = wrong = files = left = grown = 0
@@ -147,6 +148,7 @@ def try_page(page: str, update: bool) -> tuple[int, int, int, int]:
 
 
 def main() -> None:
+    """Run the pages; exit with 1 if something differs."""
     words = sys.argv[1:]
     update = '--update' in words
     pages = [word for word in words if word != '--update']

@@ -1,10 +1,11 @@
 #!/usr/bin/env python3
 """Writes the page, one file that works from a folder and without a network.
 
-    build_page.py MODULE.wasm LAST_LINE OUT.html
+    build_page.py MODULE.wasm LAST_LINE MADE OUT.html
 
-MODULE.wasm is what retarget.py makes of the crate `page`, and LAST_LINE the last line of its proof, which the page shows. Everything else is
-taken from web/ and examples/ of this repository. web/tools/make_page.sh does all steps.
+MODULE.wasm is what retarget.py makes of the crate `page`, LAST_LINE the last line of its proof, and MADE a line `version VERSION sources SUM kit KIT`
+of what the page is made of. The page shows both lines, and has the second one in its head, for scripts. Everything else is taken from web/ and
+examples/ of this repository. web/tools/make_page.sh does all steps.
 """
 
 from __future__ import annotations
@@ -85,9 +86,12 @@ def filled(page: str, parts: dict[str, str]) -> str:
 
 
 def main() -> None:
-    if len(sys.argv) != 4:
+    if len(sys.argv) != 5:
         sys.exit(__doc__)
-    module, last_line, out = sys.argv[1:]
+    module, last_line, made, out = sys.argv[1:]
+    told = re.fullmatch(r'version (\S+) sources ([0-9a-f]{64}) kit (\S.*)', made)
+    if told is None:
+        sys.exit(f'build_page: not a line of version, sources and kit: {made}')
     with open(module, 'rb') as binary:
         encoded = base64.b64encode(binary.read()).decode()
     chart = text_of('web', 'chart.css')
@@ -95,6 +99,10 @@ def main() -> None:
         'STYLE': text_of('web', 'page.css') + chart,
         'HELP': text_of('web', 'help.html'),
         'VERDICT': html.escape(last_line),
+        'MADE': html.escape(made),
+        'VERSION': html.escape(told[1]),
+        'SOURCES': html.escape(told[2]),
+        'KIT': html.escape(told[3]),
         'EXAMPLES': as_script(examples()),
         'CHART': as_script(chart),
         'REFUSALS': as_script(json.loads(text_of('web', 'refusals.json'))),

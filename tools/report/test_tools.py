@@ -6,6 +6,9 @@
 PROGRAM is the path of the program, and the proved program of this repository where it isn't set. Without one, and without bash, the tests that
 need it are skipped, which is told. No part of the gate.
 """
+
+from __future__ import annotations
+
 import csv
 import importlib.util
 import os

@@ -151,8 +151,7 @@ def random_design(seed: Any) -> Any:
         called = [name for name in stores if chance.random() < 0.6]
         target = ['s%d' % i] if chance.random() < 0.4 else []
         needs = ['%s.set;' % name for name in called] + ['%s.go;' % name for name in target]
-        requires = 'REQUIRES ' + ' '.join(needs) if needs else ''
-        offset = chance.randint(0, 30)
+        offset, requires = chance.randint(0, 30), 'REQUIRES ' + ' '.join(needs) if needs else ''
         out.append('OBJECT t%d IS CYCLIC ATTRIBUTES PERIOD = %d; OFFSET = %d; DEADLINE = %d; THREAD_BUDGET = 200; %s DATA n : word := 0; '
                    'THREAD %s END THREAD; END t%d;' % (i, period, offset, period, requires, statements(chance, called, target), i))
         for name in target:

@@ -12,7 +12,7 @@ trap 'rm -rf "$room"' EXIT
 program=${PROGRAM:-$top/crates/hrthood/out/hrthood}
 [ -n "${PROGRAM:-}" ] || "$top/tools/gate/prove_program.sh" >/dev/null
 
-# shellcheck disable=SC2034  # a measure that reads this in uses it
+# shellcheck disable=SC2034  # scripts that read this use it
 base=$top/examples/one_cyclic_task.ada
 arrivals=$top/examples/until_20.arrivals
 costs='COSTS ASSIGN = 1; TEST = 1; TURN = 1; CALL = 2; NULL = 1; PUT = 1; FINISH = 1; END COSTS;'

@@ -43,7 +43,7 @@ function cellOf(text, attributes = {}) {
 }
 
 /** A bar of the cost, where it is known, and the response within the deadline. */
-function barOf({ name, cost, response, deadline }) {
+function barOf({ name, cost = undefined, response, deadline }) {
   const width = 120;
   const told = `${cost === undefined ? "" : `cost ${cost} and `}response ${response} of deadline ${deadline}`;
   const picture = draw("svg", { class: "meter", width, height: 14, role: "img", "aria-label": `${name}: ${told}` }, told);

@@ -100,9 +100,13 @@ function leftOf(width) {
 
 /** The lanes of a window, of its tasks and below them of these objects. */
 class Frame {
+  /** @type {any} */
+  canvas; // on which a frame of a kind draws
+
   constructor(program, start, end, objects, width) {
     this.program = program;
-    [this.start, this.end] = [start, end];
+    this.start = start;
+    this.end = end;
     this.tasks = tasksByPriority(program);
     this.objects = objects;
     const lanes = TOP + LANE * this.tasks.length + 8;
@@ -165,7 +169,8 @@ class Chart extends Frame {
     const used = new Set([...parts.map((part) => part.object), ...run.sections.filter(isIn).map((section) => section.object)]);
     super(run.program, run.start, run.end, objects.filter((name) => used.has(name)), width);
     this.run = run;
-    [this.parts, this.waits] = [parts, run.waits()];
+    this.parts = parts;
+    this.waits = run.waits();
     // An object has one colour in all windows of a run.
     this.colours = new Map(objects.map((name, index) => [name, `object-${index % COLOURS}`]));
     this.canvas = new Canvas(width, this.bottom + 14, `Who runs from tick ${this.start} to ${this.end}; the list below tells the same`);
@@ -238,7 +243,7 @@ class Chart extends Frame {
     }
   }
 
-  drawPart([x, width], base, height, kind, part, words) {
+  drawPart(/** @type {number[]} */ [x, width], base, height, kind, part, words) {
     const title = this.titleOf(part);
     this.canvas.box(kind, x, base - height, width, height, title);
     if (part.rivals.length > 0) this.canvas.box("doubt", x, base - height, width, height, title);

@@ -141,7 +141,10 @@ class TokenReader {
     return made;
   }
 
-  /** One or more of a part. @template T */
+  /**
+   * One or more of a part.
+   * @template T
+   */
   each(/** @type {() => T} */ part, /** @type {() => boolean} */ goesOn) {
     const made = [part()];
     while (goesOn()) made.push(part());
@@ -169,7 +172,10 @@ class DesignReader extends TokenReader {
     this.within(inside, () => this.take(this.is(head.word)));
   }
 
-  /** What is opened by a token and closed at the end of the part. @template T */
+  /**
+   * What is opened by a token and closed at the end of the part.
+   * @template T
+   */
   opened(/** @type {Token} */ token, /** @type {() => T} */ part) {
     if (++this.depth > DEEP + 8) throw new NoDesign();
     this.open.push(token);
@@ -222,7 +228,10 @@ class DesignReader extends TokenReader {
     return at;
   }
 
-  /** A section, which is none where its word doesn't stand here. @template T */
+  /**
+   * A section, which is none where its word doesn't stand here.
+   * @template T
+   */
   section(/** @type {string} */ word, /** @type {() => T} */ part, /** @type {() => boolean} */ goesOn) {
     if (!this.is(word)) return [];
     this.object?.sections.set(word, this.words(word));
@@ -456,7 +465,10 @@ class DesignReader extends TokenReader {
     return made;
   }
 
-  /** A chain of parts with operators between them. @returns {Expression} */
+  /**
+   * A chain of parts with operators between them.
+   * @returns {Expression}
+   */
   chain(/** @type {() => Expression} */ part, /** @type {string[]} */ operators) {
     let left = part();
     while (this.isOneOf(operators)) {
@@ -565,7 +577,10 @@ class ArrivalsReader extends TokenReader {
   }
 }
 
-/** What a reader makes of its text, or the first token with which no such text goes on. @template T */
+/**
+ * What a reader makes of its text, or the first token with which no such text goes on.
+ * @template T
+ */
 function readBy(/** @type {TokenReader & { read: () => T }} */ reader) {
   try {
     return { made: reader.read(), fault: null };
@@ -589,7 +604,10 @@ export function readArrivals(/** @type {string} */ text) {
   return readBy(new ArrivalsReader(text));
 }
 
-/** The objects of a design in flattened order, each parent before its children. @returns {DesignObject[]} */
+/**
+ * The objects of a design in flattened order, each parent before its children.
+ * @returns {DesignObject[]}
+ */
 export function objectsOf(/** @type {DesignObject|null} */ root) {
   return root === null ? [] : [root, ...root.objects.flatMap(objectsOf)];
 }

@@ -1,9 +1,24 @@
 // The page: what is shown of the answers, the tabs, files and keys.
 "use strict";
 
-const at = (id) => document.getElementById(id);
+/**
+ * The element of this name, of whatever kind it is.
+ * @returns {any}
+ */
+const at = (/** @type {string} */ id) => document.getElementById(id);
 
-/** An element with attributes and children; a child that is a text stands as it is. */
+/**
+ * All elements of a selector.
+ * @returns {HTMLElement[]}
+ */
+function allOf(/** @type {string} */ selector) {
+  return Array.from(document.querySelectorAll(selector));
+}
+
+/**
+ * An element with attributes and children; a child that is a text stands as it is.
+ * @returns {any}
+ */
 function make(name, attributes = {}, ...children) {
   const made = document.createElement(name);
   for (const [key, value] of Object.entries(attributes)) made.setAttribute(key, value);
@@ -32,8 +47,8 @@ for (const one of verbTabs) {
   at("tabs").append(one.tab);
   if (!one.panel.isConnected) at("tabs").parentElement.append(one.panel);
 }
-const panels = [...document.querySelectorAll("[role=tabpanel]")];
-const tabs = [...document.querySelectorAll("[role=tab]")];
+const panels = allOf("[role=tabpanel]");
+const tabs = allOf("[role=tab]");
 const state = { bounds: null, boundsText: "", tick: null, ada: "", trace: null, isOther: true, isBackground: false, mark: null };
 
 // ---- Runs of all that is shown ----
@@ -42,7 +57,10 @@ let timer;
 let traceTimer;
 let turn = 0;
 
-/** The texts as they are now, by the names of their files. */
+/**
+ * The texts as they are now, by the names of their files.
+ * @returns {any}
+ */
 function textsNow() {
   return Object.fromEntries(Object.keys(editors).map((kind) => [kind, at(kind).value]));
 }
@@ -125,12 +143,17 @@ async function answersOf({ design, arrivals }, early) {
 
 // ---- What is shown ----
 
+/** A text whose words between backquotes are shown as words of a design. */
+function withWords(text) {
+  return text.split("`").map((part, place) => (place % 2 === 0 ? part : make("span", { class: "word" }, part)));
+}
+
 /** Tells a sentence, what to look at, and the program's own line. */
 function tell(kind, [head, hint], line, ...more) {
   const verdict = at("verdict");
   verdict.className = kind;
-  const hints = hint === "" ? [] : [make("span", { class: "hint" }, hint)];
-  verdict.replaceChildren(...more, make("strong", {}, head), ...hints, make("code", {}, line));
+  const hints = hint === "" ? [] : [make("span", { class: "hint" }, ...withWords(hint))];
+  verdict.replaceChildren(...more, make("strong", {}, ...withWords(head)), ...hints, make("code", {}, line));
 }
 
 function goButton(mark) {
@@ -272,7 +295,7 @@ function showTimeline() {
 // ---- Tabs, files and keys ----
 
 function choose(tab) {
-  const held = document.activeElement.closest("[role=tabpanel]");
+  const held = panels.find((panel) => panel.contains(document.activeElement));
   for (const one of tabs) {
     const isChosen = one === tab;
     one.setAttribute("aria-selected", String(isChosen));
@@ -350,11 +373,11 @@ function listenToTabs() {
 }
 
 function listenToButtons() {
-  for (const button of document.querySelectorAll("[data-save]")) {
+  for (const button of allOf("[data-save]")) {
     const kind = button.dataset.save;
     button.addEventListener("click", () => save(`text.${kind}`, at(kind).value));
   }
-  for (const button of document.querySelectorAll("[data-open]")) {
+  for (const button of allOf("[data-open]")) {
     button.addEventListener("click", () => { at("file").dataset.to = button.dataset.open; at("file").click(); });
   }
   at("file").addEventListener("change", openFile);
@@ -363,7 +386,7 @@ function listenToButtons() {
   at("close").addEventListener("click", () => at("how").close());
   at("take").addEventListener("click", takeSkeleton);
   at("own").addEventListener("click", takeOwnTrace);
-  document.addEventListener("click", (event) => { if (event.target.matches("#cut, .cut")) runs.start(); });
+  document.addEventListener("click", ({ target }) => { if (target instanceof Element && target.matches("#cut, .cut")) runs.start(); });
   window.addEventListener("resize", () => timeline.render());
 }
 

@@ -14,7 +14,7 @@ import { SECTIONS, objectsOf, readArrivals, readDesign, tokensOf } from "./desig
 /** @typedef {Detail & { span: Span }} Note */
 /** @typedef {{ span: Span, detail: Detail|null, notes: Note[] }} Found */
 /** @typedef {{ names: Map<string, "read"|"written">, object: DesignObject, objects: Map<string, DesignObject>, loops: number }} Scope */
-/** @typedef {{ fault: string, token: Token, detail: Detail|null, notes: Note[] }} BodyFault */
+/** @typedef {{ fault: string, token: Span, detail: Detail|null, notes: Note[] }} BodyFault */
 
 const LIMIT = 1000000000;
 const shown = (/** @type {string} */ word) => word.toUpperCase();
@@ -26,19 +26,28 @@ const note = (/** @type {Span} */ span, /** @type {string} */ key, /** @type {Re
 /** @returns {Found} */
 const found = (/** @type {Span} */ span, /** @type {Detail|null} */ said = null, /** @type {Note[]} */ ...notes) => ({ span, detail: said, notes });
 
-/** From one token to another, as one. @returns {Span} */
+/**
+ * From one token to another, as one.
+ * @returns {Span}
+ */
 const from = (/** @type {Token} */ first, /** @type {Token} */ last) => ({ index: first.index, length: last.index + last.length - first.index });
 
 // ---- Names: V01, V02 ----
 
 /** @typedef {{ name: Token, rank: number, region: string }} Declared */
 
-/** All loops of a block. @returns {Token[]} */
+/**
+ * All loops of a block.
+ * @returns {Token[]}
+ */
 function loopsOf(/** @type {Statement[]} */ block) {
   return block.flatMap((one) => [...(one.kind === "for" && one.target !== null ? [one.target] : []), ...one.blocks.flatMap(loopsOf)]);
 }
 
-/** What an object declares: of two that clash, that of the greater rank is to be renamed. @returns {Declared[]} */
+/**
+ * What an object declares: of two that clash, that of the greater rank is to be renamed.
+ * @returns {Declared[]}
+ */
 function declaredIn(/** @type {DesignObject} */ object) {
   const own = object.name.word;
   /** @type {Declared[]} */
@@ -56,7 +65,10 @@ function declaredIn(/** @type {DesignObject} */ object) {
   return all;
 }
 
-/** Of the declarations of a name the one that is to be another, and one with which it clashes. @returns {Found|null} */
+/**
+ * Of the declarations of a name the one that is to be another, and one with which it clashes.
+ * @returns {Found|null}
+ */
 function clashOf(/** @type {Design} */ design, /** @type {string} */ name) {
   const all = [{ name: design.name, rank: 0, region: "" }, ...objectsOf(design.root).flatMap(declaredIn)].filter((one) => one.name.word === name);
   const objects = all.filter(({ rank }) => rank === 0);
@@ -82,7 +94,10 @@ function declarationOf(/** @type {Design} */ design, /** @type {string} */ name)
 
 const isTerminal = (/** @type {DesignObject} */ object) => object.objects.length === 0;
 
-/** The constraints that an object may provide; null stands for none. @type {Record<string, [(string|null)[], (string|null)[]]>} */
+/**
+ * The constraints that an object may provide; null stands for none.
+ * @type {Record<string, [(string|null)[], (string|null)[]]>}
+ */
 const PROVIDED = {
   passive: [[null], [null]],
   protected: [["pser", "paer"], [null, "pser", "paer"]],
@@ -163,7 +178,10 @@ function ticksOf(/** @type {Design} */ design, /** @type {import("./design_text.
   return attribute.value * MICROSECONDS[/** @type {"us"|"ms"|"s"} */ (attribute.unit.word)] / design.microseconds;
 }
 
-/** The attributes of a kind: those that are needed, and those that may be there. @type {Record<string, [string[], string[]]>} */
+/**
+ * The attributes of a kind: those that are needed, and those that may be there.
+ * @type {Record<string, [string[], string[]]>}
+ */
 const KEYS = {
   cyclic: [["period", "deadline", "thread_budget"], ["offset"]],
   sporadic: [["separation", "deadline", "thread_budget"], ["arrival_jitter"]],
@@ -208,7 +226,10 @@ function rangeFault(/** @type {Design} */ design, /** @type {DesignObject} */ ob
   return null;
 }
 
-/** All statements of a block, in order of writing. @returns {Statement[]} */
+/**
+ * All statements of a block, in order of writing.
+ * @returns {Statement[]}
+ */
 function statementsOf(/** @type {Statement[]} */ block) {
   return block.flatMap((one) => [one, ...one.blocks.flatMap(statementsOf)]);
 }
@@ -275,7 +296,10 @@ function useFault(/** @type {Design} */ design, /** @type {DesignObject} */ obje
   return found(span, said, note(span, "similar", { NAME: other === undefined ? `${like}.${op}` : `${target}.${like}` }));
 }
 
-/** The calls of an operation of a sporadic object: of two in one body the second one, and else the last. @returns {Found|null} */
+/**
+ * The calls of an operation of a sporadic object: of two in one body the second one, and else the last.
+ * @returns {Found|null}
+ */
 function requestFault(/** @type {Design} */ design, /** @type {DesignObject} */ object) {
   const OBJECT = object.name.word;
   const calls = objectsOf(design.root).flatMap((one) => allStatements(one)
@@ -291,14 +315,20 @@ function requestFault(/** @type {Design} */ design, /** @type {DesignObject} */ 
 const LOGICAL = ["and", "or", "xor"];
 const COMPARISONS = ["=", "/=", "<", "<=", ">", ">="];
 
-const hasName = (/** @type {Expression} */ one) => one.kind === "name" || one.parts.some((part) => hasName(part));
+/** @returns {boolean} */
+function hasName(/** @type {Expression} */ one) {
+  return one.kind === "name" || one.parts.some((part) => hasName(part));
+}
 
 /** Whether an expression is a Boolean, by its outermost operator. */
 function isBoolean(/** @type {Expression} */ one) {
   return one.kind === "not" || (one.op !== undefined && [...LOGICAL, ...COMPARISONS].includes(one.op));
 }
 
-/** The faults of an expression, which is to be a Boolean or a word. @returns {BodyFault[]} */
+/**
+ * The faults of an expression, which is to be a Boolean or a word.
+ * @returns {BodyFault[]}
+ */
 function expressionFaults(/** @type {Expression} */ one, /** @type {boolean} */ wantsBoolean, /** @type {Scope} */ scope) {
   /** @type {BodyFault[]} */
   const faults = [];
@@ -329,14 +359,14 @@ function callFaults(/** @type {Statement} */ one, /** @type {Scope} */ scope) {
     const like = similarTo(NAME, object.requires.map((use) => `${use.object.word}.${use.op.word}`));
     const place = ["requires", "data", "operation", "thread"].map((word) => object.sections.get(word)).find((section) => section !== undefined);
     const where = place === undefined ? [] : [note(place, "required", { NAME })];
-    const notes = like === null ? where : [note(target, "similar", { NAME: like })];
-    return [{ fault: "B1", token: target, detail: detail("uncalled", { NAME, OBJECT: object.name.word }), notes }];
+    const notes = like === null ? where : [note(from(target, op), "similar", { NAME: like })];
+    return [{ fault: "B1", token: from(target, op), detail: detail("uncalled", { NAME, OBJECT: object.name.word }), notes }];
   }
   const called = scope.objects.get(target.word)?.provides.find(({ name }) => name.word === op.word);
   if (called === undefined) return [];
   /** @type {BodyFault[]} */
   const faults = called.params.length === one.parts.length ? []
-    : [{ fault: "B7", token: target, detail: null, notes: [note(called.name, "provided", { NAME })] }];
+    : [{ fault: "B7", token: from(target, op), detail: null, notes: [note(called.name, "provided", { NAME })] }];
   const outs = new Set();
   for (const [place, part] of one.parts.entries()) {
     const isOut = called.params[place]?.mode.word === "out";
@@ -385,7 +415,10 @@ function blockFaults(/** @type {Statement[]} */ block, /** @type {Scope} */ scop
   return block.flatMap((one) => statementFaults(one, scope));
 }
 
-/** The first place of a fault of a body. @returns {Found|null} */
+/**
+ * The first place of a fault of a body.
+ * @returns {Found|null}
+ */
 function bodyFault(/** @type {Design} */ design, /** @type {DesignObject} */ object, /** @type {string} */ part, /** @type {string} */ fault) {
   /** @type {Map<string, "read"|"written">} */
   const names = new Map(object.data.map(({ name }) => [name.word, "written"]));
@@ -427,7 +460,10 @@ const OF_OBJECT = {
   A5: (_, object) => attributeOf(object, "deadline"),
 };
 
-/** What breaks a rule in a design, of which the names are told. @returns {Found|null} */
+/**
+ * What breaks a rule in a design, of which the names are told.
+ * @returns {Found|null}
+ */
 function ruleFault(/** @type {Design} */ design, /** @type {string} */ code, /** @type {string[]} */ names) {
   const [first, ...rest] = names;
   if (code === "V17" && first === "tick" && design.tick !== null) return found(design.tick);
@@ -493,7 +529,10 @@ export function faultAt(/** @type {string} */ kind, /** @type {string} */ text, 
   return isThere ? fault : null;
 }
 
-/** The notes that a fault of the text has: what may be the cause, and stands before it. @returns {Note[]} */
+/**
+ * The notes that a fault of the text has: what may be the cause, and stands before it.
+ * @returns {Note[]}
+ */
 function textNotes(/** @type {string} */ text, /** @type {number} */ index) {
   const fault = faultAt("design", text, index);
   if (fault === null) return [];
@@ -542,7 +581,10 @@ function placeOfText(/** @type {string} */ line, /** @type {Texts} */ texts) {
   return { kind: told[2], span: { index, length: tokenLength(text, index) }, detail: null, notes };
 }
 
-/** The request of a line of arrivals, or the horizon. @returns {FoundIn|null} */
+/**
+ * The request of a line of arrivals, or the horizon.
+ * @returns {FoundIn|null}
+ */
 function placeOfArrivals(/** @type {string} */ line, /** @type {Texts} */ texts) {
   const text = texts.arrivals;
   if (text === undefined) return null;
@@ -566,7 +608,10 @@ function placeOfTrace(/** @type {string} */ line, /** @type {Texts} */ texts) {
   return { kind: "trace", ...found({ index: indexOf(texts.trace, Number(told[1]), 1), length: 1 }) };
 }
 
-/** The text in which the fault stands that a line tells, and its place there; or null, where no place is told and no name. @returns {FoundIn|null} */
+/**
+ * The text in which the fault stands that a line tells, and its place there; or null, where no place is told and no name.
+ * @returns {FoundIn|null}
+ */
 export function foundOf(/** @type {string} */ line, /** @type {Texts} */ texts) {
   const place = placeOfText(line, texts) ?? placeOfArrivals(line, texts) ?? placeOfTrace(line, texts);
   if (place !== null) return place;

@@ -117,7 +117,10 @@ export class Refusals {
       && (one.head === undefined || new RegExp(one.head).test(head)));
   }
 
-  /** All that is told of a line of standard error, or null where it is no refusal that is known. @returns {Told|null} */
+  /**
+   * All that is told of a line of standard error, or null where it is no refusal that is known.
+   * @returns {Told|null}
+   */
   toldOf(/** @type {string} */ line, /** @type {Texts} */ texts) {
     const found = foundOf(line, texts);
     const words = this.wordsOf(line, texts, found);
@@ -129,12 +132,15 @@ export class Refusals {
     return { code, place: found === null ? null : placeOf(found.span), ...words, notes };
   }
 
-  /** What the page tells: a sentence, and what to look at and to do, which may be empty. @returns {[string, string]} */
+  /**
+   * What the page tells: a sentence, and what to look at and to do, which may be empty.
+   * @returns {[string, string]}
+   */
   plain(/** @type {string} */ line, /** @type {Texts} */ texts) {
     if (line === "no memory") return ["There is not enough memory in this page.", ""];
     const told = this.toldOf(line, texts);
     if (told === null) return [line, ""];
-    const notes = told.notes.map(({ place, says }) => `Line ${place.line}: ${says}`);
+    const notes = told.notes.map(({ place, says }) => (place.line === told.place?.line ? says : `Line ${place.line}: ${says}`));
     return [told.says, [...told.more, ...notes].join(" ")];
   }
 }

@@ -116,8 +116,12 @@ const VERBS = [
 
 /** The tab of a verb. Its run begins when the tab is chosen, and again when a text that it takes has changed meanwhile. */
 class VerbTab {
-  constructor({ verb, label, takes, file, view, none }) {
-    Object.assign(this, { verb, takes, file, view, none });
+  constructor({ verb, label, takes, file, view, none = undefined }) {
+    this.verb = verb;
+    this.takes = takes;
+    this.file = file;
+    this.view = view;
+    this.none = none;
     this.texts = null; // of the answer that is shown, or on its way
     this.mark = null; // of what it refuses
     this.tab = make("button", { type: "button", role: "tab", id: `tab-${verb}`, "aria-controls": `panel-${verb}` }, label);
@@ -181,9 +185,9 @@ class VerbTab {
     const isOther = this.verb === "accepts" && backgroundOf(given.design).length > 0;
     return [
       ...goButton(this.mark).map((button) => make("div", { class: "tools" }, button)),
-      make("p", {}, make("b", {}, head)),
+      make("p", {}, make("b", {}, ...withWords(head))),
       ...why,
-      make("p", {}, isOther ? NO_MACHINE : hint),
+      make("p", {}, ...withWords(isOther ? NO_MACHINE : hint)),
       make("pre", { class: "text" }, line),
     ];
   }

@@ -1,4 +1,5 @@
 # shellcheck shell=sh
+# shellcheck disable=SC2154  # `top` is set by whoever reads this
 # Whether what was built is of the sources and the kit that are there now. For scripts that set `top` to the folder of the repository, and
 # read this with `.`.
 #
@@ -16,8 +17,6 @@
 # What can still fool this: a clock that was set back; a kit that was changed behind the same files beside `rt`, or where no `rt` is found;
 # where there is no mark, a source that was changed while `rt` ran, or a folder that was taken away whole; whoever writes a mark, or what a
 # page says of itself, by hand (web/tools/test_page.sh compares the page with one that it makes).
-
-: "${top:?is set by the script that reads this}"
 
 # The file that is `rt`; nothing where there is none.
 file_of_rt() {

@@ -65,12 +65,12 @@ tells 1 'refused S1 design line 1 column 1' check empty.design
 # Each verb into a standard output that is full, and into one that is closed.
 for words in 'check mine_pump.design' 'analyse mine_pump.design' 'format mine_pump.design' 'generate mine_pump.design' \
     'replay one_cyclic_task.ada until_20.arrivals' 'verify mine_pump.design one_water_alarm.arrivals' 'sample 3'; do
-    read -ra line <<<"$words"
     status=0
-    "$program" "${line[@]}" </dev/null >/dev/full 2>err || status=$?
+    read -ra given <<<"$words"
+    "$program" "${given[@]}" </dev/null >/dev/full 2>err || status=$?
     judge "$words, into a full device" "$status" 4 'fault writing'
     status=0
-    "$program" "${line[@]}" </dev/null 2>err >&- || status=$?
+    "$program" "${given[@]}" </dev/null 2>err >&- || status=$?
     judge "$words, with standard output closed" "$status" 4 'fault writing'
 done
 
@@ -152,11 +152,11 @@ piece='import os, sys; print(os.write(1, bytes(300000)) < 300000, file=sys.stder
 timeout 60 python3 slow.py 1 python3 -c "$piece" >out 2>err || status=$?
 judge 'a piece of Python, stopped and continued, is taken in part' "$status" 0 True
 for words in 'format long.design' 'generate long.design' "${replay[*]}"; do
-    read -ra line <<<"$words"
-    "$program" "${line[@]}" </dev/null >whole 2>err
+    read -ra given <<<"$words"
+    "$program" "${given[@]}" </dev/null >whole 2>err
     [ "$(wc -c <whole)" -gt 131072 ] || report "$words" 'what it writes is too short for this'
     status=0
-    timeout 60 python3 slow.py 20 "$program" "${line[@]}" >out 2>err || status=$?
+    timeout 60 python3 slow.py 20 "$program" "${given[@]}" >out 2>err || status=$?
     judge "$words, stopped and continued" "$status" 0 ''
     cmp -s out whole || report "$words, stopped and continued" 'other bytes came'
 done

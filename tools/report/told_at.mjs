@@ -83,9 +83,13 @@ function run(/** @type {string} */ program, /** @type {string[]} */ words, /** @
   exit(status ?? 125);
 }
 
-/** The words for all that the program told. */
+/** The words for all that the program told. Whatever happens here, the program's own line and its status stay. */
 function allWords(/** @type {string} */ told, /** @type {string[]} */ words) {
-  return told.split("\n").map((line) => wordsFor(line, words)).join("");
+  try {
+    return told.split("\n").map((line) => wordsFor(line, words)).join("");
+  } catch (fault) {
+    return `told_at: ${fault}\n`;
+  }
 }
 
 function main(/** @type {string[]} */ given) {

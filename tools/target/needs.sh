@@ -1,4 +1,4 @@
-# shellcheck shell=sh
+# shellcheck shell=bash
 # What the scripts of this folder need of a host. They read this with `.` and call both functions; each ends the script where something is missing.
 
 # Status 3: no GNAT.

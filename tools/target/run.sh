@@ -87,7 +87,7 @@ case $cpu in
     *[,-]*) sed -i '/ away /d' run ;;
 esac
 if [ $mode = steps ]; then
-    # shellcheck disable=SC2094  # the first `log` is a word, and no file
+    # shellcheck disable=SC2094  # `log` is the name of a command and of a file
     python3 "$here/target.py" log text trace run >log || exit 2
     python3 "$here/target.py" steps text trace run
 else

@@ -156,8 +156,8 @@ class Logs(unittest.TestCase):
         self.assertEqual(target.log(program(), TRACE, STEPS), TRACE)
 
     def test_what_a_run_does_otherwise_stands_in_its_log(self) -> None:
-        told = target.log(program(), TRACE, STEPS.replace(' 33 put 2 2', ' 34 put 2 3'))
-        self.assertEqual(told, TRACE.replace('33 put printer 2', '34 put printer 3'))
+        later = STEPS.replace(' 33 put 2 2', ' 34 put 2 3')
+        self.assertEqual(target.log(program(), TRACE, later), TRACE.replace('33 put printer 2', '34 put printer 3'))
 
     def test_an_end_too_many_has_no_ticks(self) -> None:
         self.assertIn('50 end button used 0\n', target.log(program(), TRACE, STEPS.replace('121 enter', '50 end 3\n 121 enter')))

@@ -201,6 +201,7 @@ function chartTitles(output, from, to) {
   return titles.filter((title) => !LEGEND.has(title)).sort();
 }
 
+/** @type {[string, string, number[][]][]} */
 const PAIRS = [
   ["mine_pump.design", "blocked_sensor.arrivals", [[0, 100], [470, 545], [396, 536]]],
   ["flight_control.design", "flight_control.arrivals", [[0, 300], [150, 260]]],

@@ -3,14 +3,17 @@
 import { readFileSync } from "node:fs";
 import { runInThisContext } from "node:vm";
 
+/** @type {any} */
 let env;
+/** @type {any} */
 let memory;
 // The host makes an instance of a module; here it gets a memory alone.
-WebAssembly.Instance = function (_module, imports) {
+function Instance(_module, imports) {
   env = imports.env;
   memory = new WebAssembly.Memory({ initial: 1 });
   return { exports: { memory, __heap_base: { value: 1000n } } };
-};
+}
+Object.assign(WebAssembly, { Instance });
 const start = runInThisContext(`(() => { ${readFileSync(process.argv[2], "utf8")}; return startInstance; })()`);
 start(null, 2 ** 26);
 const TO = 16n;
@@ -32,7 +35,7 @@ const judge = (isRight, what) => {
 for (let turn = 0; turn < 200000; turn++) {
   const kind = random(10);
   if (kind < 5 || blocks.length === 0) {
-    const block = { size: sizeOf(), byte: random(256) };
+    const block = { at: null, size: sizeOf(), byte: random(256) };
     env.rattle_alloc(TO, BigInt(block.size), 16n);
     block.at = told();
     if (block.at === null) { refused++; continue; }

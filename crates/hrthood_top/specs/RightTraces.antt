@@ -1,4 +1,5 @@
--- What is right about the trace of a text that was made of a design: the design's machine allows it, within the least bounds.
+-- What is right about the trace of a text that was made of a design: the design's machine allows it, within the least bounds; no request is lost,
+-- and chains and costs are within what is printed of them.
 -- It is the promise of the project, said of bytes.
 use Rattle.std.specs.Prelude.{◌≡◌, ℕ, List}
 use Rattle.ods_tree.specs.Designs.{Design}
@@ -22,6 +23,7 @@ use Rattle.guarantee.specs.Arrivals.{named_arrivals}
 use Rattle.guarantee.specs.Allowed.{Allows}
 use Rattle.guarantee.specs.Bounded.{IsBounded}
 use Rattle.guarantee.specs.Programs.{responses}
+use Rattle.law_chain_bounds.specs.Served.{Serves}
 use Rattle.background_designs.specs.Refusals.{IsBackgroundDesign}
 use Rattle.background_designs.specs.Programs.{hard_rows}
 use Rattle.background_designs.specs.Runs.{PermitsBackground}
@@ -44,6 +46,7 @@ pub record IsRightTrace (design text arrivals written : List ℕ) : Type 0 where
   pub exclusive : Exclusive told
   pub allowed : Allows (in_ticks of) (named_arrivals program under) (named program told)
   pub bounded : IsBounded (responses (flat (in_ticks of)) bounds) under.until (named program told)
+  pub serves : Serves (in_ticks of) bounds under.until (named program told)
 
 -- the same of the text of a design with background objects: a run that the design permits, within the least bounds of its hard threads
 pub record IsRightBackgroundTrace (design text arrivals written : List ℕ) : Type 0 where

@@ -4,4 +4,5 @@ mod LevelSteps
 mod TabledChains
 mod PrintedChains
 mod Examples
+mod ServedExamples
 mod WorkedMine

@@ -13,4 +13,4 @@
 
 mod replays;
 
-pub use replays::{generated_text_replays_right, replay_is_right};
+pub use replays::{generated_text_replays_right, replay_is_right, replay_serves};

@@ -22,6 +22,7 @@ ghost use Rattle.rt_response.specs.Response.{Fits};
 ghost use Rattle.guarantee.specs.Arrivals.{named_arrivals};
 ghost use Rattle.guarantee.specs.Programs.{program, responses, text};
 ghost use Rattle.seq_tree.specs.Limits.{ada_limit};
+ghost use Rattle.law_chain_bounds.specs.Served.{Serves};
 
 /// What a replay tells of a text that is accepted as the program of a design is allowed by the design and within its bounds.
 ///
@@ -33,6 +34,17 @@ pub fn replay_is_right()
         → IsProperDesign (within_limits is_design_name) x → MeetsRules x → Fits (table (flat (in_ticks x))).rows v
         → Accepts written (program (in_ticks x)) → Accepts written p → IsAccepted limit p r → Meaning p r told
         → Allows (in_ticks x) (named_arrivals p r) (named p told) × IsBounded (responses (flat (in_ticks x)) v) r.until (named p told) }
+{}
+
+/// In a replay of a text that is accepted as the program of a design, each request is served at once, each chain of the design's table takes at
+/// most the response time of its thread of lowest priority, and each activation uses at most the cost of its row.
+///
+/// The premises are those of `replay_is_right`.
+pub fn replay_serves()
+    ensures { (limit : ℕ) (x : Design) (written : List ℕ) (v : List Bound) (p : Program) (r : Arrivals) (told : List Event)
+        → IsProperDesign (within_limits is_design_name) x → MeetsRules x → Fits (table (flat (in_ticks x))).rows v
+        → Accepts written (program (in_ticks x)) → Accepts written p → IsAccepted limit p r → Meaning p r told
+        → Serves (in_ticks x) v r.until (named p told) }
 {}
 
 /// What a replay tells of the text of a design, by whatever program it is accepted as, is allowed by the design and within its bounds.

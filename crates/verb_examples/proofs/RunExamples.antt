@@ -46,6 +46,7 @@ use Rattle.hrthood_top.specs.Violations.{EndsAt, RunsOut, Violation, violation_l
 use Rattle.hrthood_top.specs.Generates.{CanGenerate, RefusesDesign, generate_line}
 use Rattle.hrthood_top.specs.Replays.{IsTrace, SaysProgram, SaysArrivals, Replays, IsAdaAlone, replays}
 use Rattle.hrthood_top.specs.RightTraces.{IsRightTrace}
+use Rattle.law_chain_bounds.specs.Served.{Serves}
 use Rattle.hrthood_top.specs.Verifies.{IsVerified, trace_mark, verifies}
 use Rattle.hrthood_top.specs.Samples.{IsSummed, SummaryEnds, samples, text_bounds}
 
@@ -194,8 +195,8 @@ module _ (d t r written : List ℕ) where
   right : (x : Design) (v : List Bound) (p : Program) (a : Arrivals) (told : List Event) → Reads d x → MeetsRules x
       → IsLeastVector (table (flat (in_ticks x))).rows v → Accepts t p → Arrives horizon_limit r p a → Meaning p a told
       → written ≡ lines p told → Exclusive told → Allows (in_ticks x) (named_arrivals p a) (named p told)
-      → IsBounded (responses (flat (in_ticks x)) v) a.until (named p told) → IsRightTrace d t r written
-  right x v p a told reads meets least accepts arrives means whole exclusive allowed bounded = record {
+      → IsBounded (responses (flat (in_ticks x)) v) a.until (named p told) → Serves (in_ticks x) v a.until (named p told) → IsRightTrace d t r written
+  right x v p a told reads meets least accepts arrives means whole exclusive allowed bounded serves = record {
     of = x;
     reads = reads;
     meets = meets;
@@ -211,6 +212,7 @@ module _ (d t r written : List ℕ) where
     exclusive = exclusive;
     allowed = allowed;
     bounded = bounded;
+    serves = serves;
   }
 
   of_no_design : ((x : Design) → Reads d x → ⊥) → IsRightTrace d t r written → ⊥
@@ -250,6 +252,12 @@ module _ (d t r written : List ℕ) where
       → IsLeastVector (table (flat (in_ticks x))).rows v → Meaning p a told
       → IsBounded (responses (flat (in_ticks x)) v) a.until (named p told) → ⊥) → IsRightTrace d t r written → ⊥
   not_bounded never h = never h.of h.bounds h.program h.under h.told h.reads h.least h.means h.bounded
+
+  -- a request that is lost, a chain that is late, or an activation that uses too much
+  not_served : ((x : Design) (v : List Bound) (p : Program) (a : Arrivals) (told : List Event) → Reads d x
+      → IsLeastVector (table (flat (in_ticks x))).rows v → Meaning p a told
+      → Serves (in_ticks x) v a.until (named p told) → ⊥) → IsRightTrace d t r written → ⊥
+  not_served never h = never h.of h.bounds h.program h.under h.told h.reads h.least h.means h.serves
 
 -- VERIFY
 mark : trace_mark ≡ codes "-- trace\n"

@@ -23,6 +23,8 @@ use Rattle.guarantee.specs.Arrivals.{named_arrivals}
 use Rattle.guarantee.specs.Allowed.{Allows}
 use Rattle.guarantee.specs.Bounded.{IsBounded}
 use Rattle.guarantee.specs.Programs.{program, responses, text}
+use Rattle.law_chain_bounds.specs.Served.{Serves}
+use Rattle.law_chain_bounds.proofs.Shared.DesignService.{designs-serve}
 use Rattle.law_runs.proofs.Shared.DesignLaw.{replays-are-right}
 use Rattle.law_texts.proofs.Shared.WrittenTexts.{text-accepted}
 use Rattle.law_two_runs.proofs.Shared.OneProgram.{one_program}
@@ -39,6 +41,15 @@ right-replay limit x written v p r told proper meets fits own accepts =
     let same : program (in_ticks x) ≡ p = one_program written (program (in_ticks x)) p own accepts in
     let P : Program → Type 0 = λ q. IsAccepted limit q r → Meaning q r told → IsRight x v q r told in
     subst P same (replays-are-right limit x v r told proper meets fits)
+
+pub served-replay : (limit : ℕ) (x : Design) (written : List ℕ) (v : List Bound) (p : Program) (r : Arrivals) (told : List Event)
+    → IsProperDesign (within_limits is_design_name) x
+    → MeetsRules x → Fits (table (flat (in_ticks x))).rows v → Accepts written (program (in_ticks x)) → Accepts written p → IsAccepted limit p r
+    → Meaning p r told → Serves (in_ticks x) v r.until (named p told)
+served-replay limit x written v p r told proper meets fits own accepts =
+    let same : program (in_ticks x) ≡ p = one_program written (program (in_ticks x)) p own accepts in
+    let P : Program → Type 0 = λ q. IsAccepted limit q r → Meaning q r told → Serves (in_ticks x) v r.until (named q told) in
+    subst P same (designs-serve limit x v r told proper meets fits)
 
 pub right-generated : (limit : ℕ) (x : Design) (bytes : List ℕ) (v : List Bound) (p : Program) (r : Arrivals) (told : List Event) → Reads bytes x
     → MeetsRules x

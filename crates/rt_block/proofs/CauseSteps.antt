@@ -2,7 +2,7 @@
 -- that causes it.
 use Rattle.std.proofs.Common.{◌≡◌, ℕ, zero, suc, ◌+◌, ◌-◌, ◌≤◌, ◌<◌, max, min, Bool, true, false, cond, List, [], ◌∷◌, ◌++◌, length, map, zip, Option, Some}
 use Rattle.std.proofs.Common.{None, refl, sym, ap, ◌∙◌, subst, arith, inl, inr, append_assoc}
-use Rattle.std.specs.Prelude.{◌⊎◌, ◌&&◌, ◌==◌, fold, filter_map, flat_map, find, nat_le, nat_lt, slice_get, option_map, if◌then◌else◌}
+use Rattle.std.specs.Prelude.{◌&&◌, ◌==◌, fold, flat_map, find, nat_le, nat_lt, slice_get, option_map, if◌then◌else◌}
 use Rattle.std.specs.List.{list_any}
 use Rattle.std.proofs.lemmas.List.{map-append, length-map, length-append}
 use Rattle.std.proofs.lemmas.Bool.{and_parts, false≢true}
@@ -23,12 +23,12 @@ use Rattle.analysis.specs.Sections.{live_calls}
 use Rattle.analysis.specs.Sound.{name_of}
 use Rattle.analysis.specs.Tables.{downwards}
 use Rattle.law_calls.proofs.Shared.Lists.{IsIn, any-at, any-in, at-in, in-map, in-some}
-use Rattle.call_graph.specs.Numbers.{greatest_of, value}
+use Rattle.call_graph.specs.Numbers.{greatest_of}
 use Rattle.call_graph.specs.Entries.{Entry, entries, entry_at, entry_by, entry_of}
 use Rattle.call_graph.specs.declared.services.Served.{Served}
 use Rattle.call_graph.specs.Places.{value_at}
 use Rattle.call_graph.specs.Prices.{cap, prices}
-use Rattle.call_graph.proofs.Shared.PlaceLaws.{along, along-none, placed, entry_named, entry-name, named, or_none, none-made, made}
+use Rattle.call_graph.proofs.Shared.PlaceLaws.{along, placed, entry_named, entry-name, named, or_none, none-made, made}
 use Rattle.call_graph.proofs.Shared.PriceLaws.{as-deep, priced, prices-made}
 use Rattle.name_sets.specs.FirstPlaces.{op_place_from}
 use Rattle.block_causes.specs.Entered.{entered_by, service_entered, entered_within, entered}
@@ -37,7 +37,7 @@ use Rattle.rt_block.specs.Called.{called_places, inner_places}
 use Rattle.rt_block.specs.Causes.{waits, numbers, cause_numbers, number_or, first_number, op_of, AreNamed}
 use Rattle.rt_block.specs.Known.{IsServed}
 use Rattle.rt_block.specs.declared.operations.Operations.{Operations}
-use Rattle.rt_block.specs.Ceilings.{ceiling_by, entry_ceiling, entry_ceilings}
+use Rattle.rt_block.specs.Ceilings.{entry_ceiling, entry_ceilings}
 use Rattle.rt_block.specs.Longest.{section_price, section_prices}
 use Rattle.rt_block.specs.Spreads.{spread}
 use Rattle.rt_block.specs.declared.calls.Scope.TheVariants.{Live}

@@ -1,9 +1,9 @@
-use Rattle.std.proofs.Common.{◌≡◌, ◌-◌, ℕ, List, Option, Some, None, length, map, zip, ap, sym, ◌∙◌, option_map}
+use Rattle.std.proofs.Common.{◌≡◌, ◌-◌, length, map, zip, ap, sym, ◌∙◌, option_map}
 use Rattle.std.specs.Prelude.{slice_get}
 use Rattle.std.proofs.lemmas.List.{length-map}
 use Rattle.std.proofs.lemmas.Result.{IfOk-weaker}
 use Rattle.name_sets.specs.Tables.{at}
-use Rattle.block_causes.specs.Causes.{Cause, cause_by}
+use Rattle.block_causes.specs.Causes.{cause_by}
 use Rattle.rt_block.specs.Called.{inner_places}
 use Rattle.rt_block.specs.Causes.{cause_in, cause_numbers, cause_of, first_number, op_of}
 use Rattle.rt_block.specs.Known.{design, known_entries}

@@ -1,4 +1,4 @@
-use Rattle.std.proofs.Common.{◌≡◌, ◌≤◌, ◌++◌, length, map, option_map}
+use Rattle.std.proofs.Common.{◌≡◌, ◌++◌, length, map, option_map}
 use Rattle.analysis.specs.Tables.{downwards}
 use Rattle.block_causes.specs.Causes.{cause}
 use Rattle.rt_block.specs.Causes.{cause_of}

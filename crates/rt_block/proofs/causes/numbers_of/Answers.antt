@@ -1,4 +1,4 @@
-use Rattle.std.proofs.Common.{◌≡◌, ◌∷◌, ◌++◌, [], ap, sym, ◌∙◌, length, arith, suc}
+use Rattle.std.proofs.Common.{ap, length, arith}
 use Rattle.rt_block.specs.Causes.{cause_numbers}
 use Rattle.rt_block.proofs.CauseSteps.{many-next, numbers-next}
 use Rattle.rt_block.proofs.causes.numbers_of.Goals as goal

@@ -6,7 +6,10 @@
 //! that a row that is given up is late in every solution, are laws over the definitions.
 #![tactic(auto)]
 
+mod behind;
+mod progress;
 mod reach;
+mod sides;
 mod solving;
 
 ghost use Rattle.late_response.specs.Laws.{SolvedIsLeast, SolvedMeetsItsEquation, SolvedInTimeIsLeast, LeastIsSolved, BeyondIsLate};

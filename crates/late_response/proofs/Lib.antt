@@ -1,0 +1,4 @@
+pub mod Places
+pub mod Progressing
+pub mod Standing
+pub mod Resting

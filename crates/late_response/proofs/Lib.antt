@@ -2,3 +2,4 @@ pub mod Places
 pub mod Progressing
 pub mod Standing
 pub mod Resting
+pub mod LateLaws

@@ -103,6 +103,7 @@ marked-parts first starter i xs y h = go (nat_lt i first) refl h
         → (x : Known) × (slice_get xs i ≡ Some x) × (behind_of starter x ≡ y)
     by None e h = absurd (some-none (sym h))
     by (Some x) e h = (x, e, some-same h)
+
     go : (p : Bool) → nat_lt i first ≡ p → (if p then slice_get xs i else behind_in starter (slice_get xs i)) ≡ Some y
         → ((i < first) × (slice_get xs i ≡ Some y)) ⊎ ((first ≤ i) × ((x : Known) × (slice_get xs i ≡ Some x) × (behind_of starter x ≡ y)))
     go true e h = inl (grind arith, h)
@@ -198,8 +199,7 @@ taken-front n (suc i) [] (x ∷ xs) h small long = absurd (omega arith)
 taken-front n (suc i) (row ∷ rows) [] h small long = absurd (omega arith)
 taken-front n (suc i) (row ∷ rows) (x ∷ xs) h small long =
     let asks : 1 ≤ row.deadline = h.0.asks in
-    let before : row.deadline ≤ row.period = h.0.before_next in
-    (
+    let before : row.deadline ≤ row.period = h.0.before_next in (
       record { period = omega arith; cost = h.0.cost; jitter = (small 0 x refl).jitter },
       taken-front n i rows xs h.1 (λ j y e. small (suc j) y e) (omega arith),
     )

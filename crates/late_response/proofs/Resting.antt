@@ -36,8 +36,10 @@ jitter-rises rows k xs place row x table stands is at = by row.starter refl
   where
     other : {s s' : ℕ} → Some s ≡ Some s' → s ≡ s'
     other e = cc
+
     none : {s : ℕ} → None ≡ Some s → ⊥
     none e = cc
+
     by : (o : Option ℕ) → row.starter ≡ o → x.jitter ≤ next_jitter xs row x.jitter row.starter
     by None e = fed-rises rows k xs place row x table stands is at
         (λ s started. absurd (none (sym e ∙ ap (λ r. r.starter) (some-same (sym is ∙ started.is)) ∙ started.started)))
@@ -54,6 +56,7 @@ jitter-rises rows k xs place row x table stands is at = by row.starter refl
         reach n (Behind t) f =
             let stays : next_jitter xs row x.jitter row.starter ≡ x.jitter = ap (λ o. next_jitter xs row x.jitter o) e ∙ ap (λ o. sum_or x.jitter o) f in
             subst (λ z. x.jitter ≤ z) (sym stays) (le_refl x.jitter)
+
         live : (o : Option Known) → slice_get xs s ≡ o → x.jitter ≤ next_jitter xs row x.jitter row.starter
         live None f =
             let stays : next_jitter xs row x.jitter row.starter ≡ x.jitter = ap (λ o. next_jitter xs row x.jitter o) e ∙ ap (λ o. sum_or x.jitter o) f in
@@ -145,6 +148,7 @@ next-stays rows k xs ys table stands closed small long next less m i = go (nat_l
         let left : left_of y.reach ≡ left_of x.reach = omega (arith, up.0, up.1, down) in
         at ∙ ap (λ z. Some z) (sym (of-stays rows k m xs i x.jitter row x.reach stands (small i x at).reach at jitter left))
         ∙ sym (next-is rows xs m i row x is at)
+
     go : (p : Bool) → nat_lt i (length rows) ≡ p → slice_get xs i ≡ next_at rows xs m i
     go true e = here (grind arith)
     go false e =
@@ -171,6 +175,7 @@ rest-told rows k xs ys table stands closed small long next less i x at = by x.ji
   where
     for_ever : (m : ℕ) → k ≤ m → Stands rows m xs
     for_ever = stays rows k xs table stands closed (next-stays rows k xs ys table stands closed small long next less)
+
     by : (n : ℕ) (r : Reach) → slice_get xs i ≡ Some (record { jitter = n; reach = r }) → IsTold rows i r
     by n (Solved j r) e = record {
       from = k;

@@ -38,6 +38,7 @@ live-at xs i h = by (slice_get xs i) refl h
     reach n (Solved j r) e h = record { held = n; jitter = j; response = r; is = e }
     reach n (Beyond a j r) e h = absurd h
     reach n (Behind s) e h = absurd h
+
     by : (o : Option Known) → slice_get xs i ≡ o → IsLiveIn o → LiveAt xs i
     by None e h = absurd h
     by (Some x) e h = reach x.jitter x.reach e h
@@ -121,10 +122,12 @@ firsts-stand rows xs table long first = record { long = long; each = each; jitte
         = judged rows 0 i (first_jitter row.jitter row.starter) (row.block + row.cost) row parts.1 (first-told rows i row parts.1)
         (λ m less. absurd (omega (arith, less))) in
         subst (λ z. IsKnown rows 0 i z.jitter z.reach) parts.2 known
+
     jitters : (place : ℕ) (x : Known) → slice_get xs place ≡ Some x → IsFed rows xs place → HasJitterIn rows 0 place x.jitter
     jitters place x at fed b told =
         let parts = first-parts rows place x (sym (first place) ∙ at) in
         ap (λ z. z.jitter) (some-same (sym told ∙ first-told rows place parts.0 parts.1)) ∙ ap (λ z. z.jitter) parts.2
+
     lost : (i s : ℕ) → IsLiveIn (slice_get xs i) → Needs rows i s → IsLiveIn (slice_get xs s) ⊎ IsLost rows 0 s
     lost i s live needs =
         let inside = starts-within rows needs.place s table (needs-starts rows i s needs) in
@@ -183,6 +186,7 @@ marked-stand rows k first starter xs ys starts out long marked stands = record {
         by : IsLiveIn (slice_get xs starter) ⊎ IsLost rows k starter → IsLost rows k starter
         by (inl live) = absurd (out live)
         by (inr lost) = lost
+
     fallen : (i n : ℕ) (r : Reach) → first ≤ i → slice_get xs i ≡ Some (record { jitter = n; reach = r }) → IsKnown rows k i n r
         → IsKnown rows k i n (behind_of starter (record { jitter = n; reach = r })).reach
     fallen i n (Solved j r) up at known = record {
@@ -194,6 +198,7 @@ marked-stand rows k first starter xs ys starts out long marked stands = record {
     }
     fallen i n (Beyond a j r) up at known = known
     fallen i n (Behind s) up at known = known
+
     each : (i : ℕ) (y : Known) → slice_get ys i ≡ Some y → IsKnown rows k i y.jitter y.reach
     each i y at = by (marked-parts first starter i xs y (sym (marked i) ∙ at))
       where
@@ -205,6 +210,7 @@ marked-stand rows k first starter xs ys starts out long marked stands = record {
             let known : IsKnown rows k i (behind_of starter x).jitter (behind_of starter x).reach
             = fallen i x.jitter x.reach part.0 part.1.1 (stands.each i x part.1.1) in
             subst (λ z. IsKnown rows k i z.jitter z.reach) part.1.2 known
+
     jitters : (place : ℕ) (y : Known) → slice_get ys place ≡ Some y → IsFed rows ys place → HasJitterIn rows k place y.jitter
     jitters place y at fed = by (marked-parts first starter place xs y (sym (marked place) ∙ at))
       where
@@ -212,11 +218,13 @@ marked-stand rows k first starter xs ys starts out long marked stands = record {
         before s started =
             let live = marked-live first starter s xs ys marked (fed s started) in
             subst (λ o. IsLiveIn o) (sym live.1) (fed s started)
+
         by : ((place < first) × (slice_get xs place ≡ Some y))
             ⊎ ((first ≤ place) × ((x : Known) × (slice_get xs place ≡ Some x) × (behind_of starter x ≡ y)))
             → HasJitterIn rows k place y.jitter
         by (inl part) = stands.jitters place y part.1 before
         by (inr part) = subst (λ z. HasJitterIn rows k place z.jitter) part.1.2 (stands.jitters place part.1.0 part.1.1 before)
+
     lost : (i s : ℕ) → IsLiveIn (slice_get ys i) → Needs rows i s → IsLiveIn (slice_get ys s) ⊎ IsLost rows k s
     lost i s live needs =
         let was = marked-live first starter i xs ys marked live in
@@ -230,6 +238,7 @@ marked-stand rows k first starter xs ys starts out long marked stands = record {
             let up : first ≤ s = grind arith in
             let gone : IsLost rows k starter = gone s up h in
             inr (gone.0, through (starts-needs rows s first starter up starts) gone.1, gone.2)
+
         by : IsLiveIn (slice_get xs s) ⊎ IsLost rows k s → IsLiveIn (slice_get ys s) ⊎ IsLost rows k s
         by (inl h) = go (nat_lt s first) refl h
         by (inr h) = inr h
@@ -327,6 +336,7 @@ next-stand rows k xs ys table stands closed long next = record { long = long; ea
         (next_of rows xs (suc k) i parts.row parts.old).reach
         = next-known rows k xs i parts.old.jitter parts.row parts.old.reach stands closed parts.is parts.at in
         subst (λ z. IsKnown rows (suc k) i z.jitter z.reach) parts.same known
+
     jitters : (place : ℕ) (y : Known) → slice_get ys place ≡ Some y → IsFed rows ys place → HasJitterIn rows (suc k) place y.jitter
     jitters place y at fed b told =
         let parts = next-parts rows xs (suc k) place y (sym (next place) ∙ at) in
@@ -336,6 +346,7 @@ next-stand rows k xs ys table stands closed long next = record { long = long; ea
         ap (λ z. z.jitter) (some-same (sym told ∙ side))
         ∙ sym (fed-jitter rows k xs place parts.old.jitter parts.row stands parts.is before)
         ∙ ap (λ z. z.jitter) parts.same
+
     lost : (i s : ℕ) → IsLiveIn (slice_get ys i) → Needs rows i s → IsLiveIn (slice_get ys s) ⊎ IsLost rows (suc k) s
     lost i s live needs =
         let l = live-at xs s (closed i s (live-back rows k i xs ys next live) needs) in

@@ -25,8 +25,9 @@ AreAbove rows i es = AllZip (λ row e. (e.0 ≡ row) × HasJitter rows row row.s
 -- a solved row meets its own equation with equality, whatever the responses of the rows above it are
 abbrev pub SolvedMeetsItsEquation : Type 0
 SolvedMeetsItsEquation =
-    (rows : List ThreadRow) (i : ℕ) (row : ThreadRow) (b : Bound) (es : List Entry) → IsSolved rows i b → slice_get rows i ≡ Some row
-    → AreAbove rows i es → HasJitter rows row row.starter b.jitter × (b.response ≡ response_after es (row, b))
+    (rows : List ThreadRow) (i : ℕ) (row : ThreadRow) (b : Bound) (es : List Entry) → IsTable rows → IsSolved rows i b
+    → slice_get rows i ≡ Some row → AreAbove rows i es
+    → HasJitter rows row row.starter b.jitter × (b.response ≡ response_after es (row, b))
 
 -- a vector of solved rows
 pub record AreSolved (rows : List ThreadRow) (v : List Bound) : Type 0 where

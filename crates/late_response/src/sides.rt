@@ -114,13 +114,7 @@ fn response_of(table: &[ThreadRow], known: &[Known], index: usize, window: u64) 
 }
 
 /// How far the row at a place is in this round.
-fn next_reach(
-    table: &[ThreadRow],
-    known: &[Known],
-    index: usize,
-    round: u64,
-    jitter: u64,
-) -> Reach
+fn next_reach(table: &[ThreadRow], known: &[Known], index: usize, round: u64, jitter: u64) -> Reach
     requires table { IsTable table.now }
     requires small { AreSmall known.now }
     requires long { length known.now ≡ length table.now }

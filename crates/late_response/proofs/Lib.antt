@@ -3,3 +3,4 @@ pub mod Progressing
 pub mod Standing
 pub mod Resting
 pub mod LateLaws
+pub mod Digits

@@ -7,6 +7,8 @@
 #![tactic(auto)]
 
 mod behind;
+mod limbs;
+mod per_mille;
 mod progress;
 mod reach;
 mod sides;
@@ -14,6 +16,7 @@ mod solving;
 
 ghost use Rattle.late_response.specs.Laws.{SolvedIsLeast, SolvedMeetsItsEquation, SolvedInTimeIsLeast, LeastIsSolved, BeyondIsLate};
 
+pub use per_mille::utilisation;
 pub use reach::Reach;
 pub use solving::respond_late;
 

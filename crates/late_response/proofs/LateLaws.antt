@@ -1,6 +1,6 @@
 -- The laws of what is told: the rounds stay below every vector that meets the equations, so solved rows are the least of them.
 use Rattle.std.specs.Prelude.{◌≡◌, ℕ, zero, suc, ◌+◌, ◌*◌, ◌≤◌, ◌<◌, List, [], ◌∷◌, length, take, zip, fold, slice_get, Option, Some, None, refl}
-use Rattle.std.specs.Prelude.{nat_lt, Bool, true, false}
+use Rattle.std.specs.Prelude.{nat_lt, Bool, true, false, option_map}
 use Rattle.std.specs.List.{AllZip}
 use Rattle.std.proofs.Common.{sym, ◌∙◌, ap, ap₂, subst, arith, le_refl, ◌⊎◌, inl, inr}
 use Rattle.std.proofs.lemmas.Option.{slice_get_within, slice_get-get_or, slice_get-map}
@@ -15,8 +15,9 @@ use Rattle.rt_response.specs.Rounds.{first_jitter, round, before_round, first_ex
 use Rattle.rt_response.proofs.Shared.Least.{round-below, at_most-refl, miss-none_fits}
 use Rattle.rt_response.proofs.Shared.Solving.{total, IsReached, reached-first, reached-next, reached-least, reached-miss, reached-few}
 use Rattle.rt_response.proofs.Shared.Solving.{round-next, bounds_eq-Decides, bounds_differ}
-use Rattle.late_response.specs.Late.{IsNear, IsFar, DependsOn, itself, through, IsWithin, IsSolved}
-use Rattle.late_response.specs.Laws.{SolvedIsLeast, HasJitter, AreAbove, SolvedMeetsItsEquation, AreSolved, SolvedInTimeIsLeast, LeastIsSolved, BeyondIsLate}
+use Rattle.late_response.specs.declared.reach.Reach.TheVariants.{Solved, Beyond, Behind}
+use Rattle.late_response.specs.Late.{IsNear, IsFar, OfBoth, Needs, DependsOn, itself, through, IsWithin, IsOver, IsSolved, IsBeyond, IsBehind}
+use Rattle.late_response.specs.Laws.{SolvedIsLeast, HasJitter, AreAbove, SolvedMeetsItsEquation, AreSolved, SolvedInTimeIsLeast, LeastIsSolved, BeyondIsLate, ToldOnce}
 use Rattle.late_response.specs.Progress.{StartsAt}
 use Rattle.late_response.proofs.Places.{some-same, some-none, at_most-at, round-long, rounds-rise, round-suc, round-has, starts-within}
 use Rattle.late_response.proofs.Places.{needs-starts, of-both, from-both}
@@ -214,7 +215,7 @@ starter-solved rows i s row b table solved is started = (
     starts : StartsAt rows i s
     starts = record { row = row; is = is; started = started }
 
-    needs : Rattle.late_response.specs.Late.Needs rows i s
+    needs : Needs rows i s
     needs = record { place = i; row = row; up = le_refl i; is = is; started = started }
 
     has : (m : ℕ) → (c : Bound) × (slice_get (round rows m) s ≡ Some c)
@@ -268,7 +269,7 @@ jitter-from rows place n row None is e h = record { from = 0; is = own }
     own : (m : ℕ) (c : Bound) → 0 ≤ m → slice_get (round rows m) place ≡ Some c → c.jitter ≡ n
     own zero c up at =
         let first = slice_get-map (λ r. record { jitter = first_jitter r.jitter r.starter; response = r.block + r.cost }) rows place
-        ∙ ap (λ z. Rattle.std.specs.Prelude.option_map (λ r. record { jitter = first_jitter r.jitter r.starter; response = r.block + r.cost }) z) is in
+        ∙ ap (λ z. option_map (λ r. record { jitter = first_jitter r.jitter r.starter; response = r.block + r.cost }) z) is in
         ap (λ z. z.jitter) (some-same (sym at ∙ first)) ∙ ap (λ s. first_jitter row.jitter s) e ∙ sym h
     own (suc m) c up at =
         let has = round-has rows m place (slice_get_within rows place row is) in
@@ -371,3 +372,61 @@ solved-equation rows i row b es table solved is above =
     let sums = same-above rows b.response 0 0 i rows (round rows m) es refl (round-long rows m) above
     (λ p e c less at told. r.are p m e c less (omega arith) at told) in
     (has-jitter rows i row b table solved is, ap (λ z. z.response) same ∙ ap (λ n. row.block + row.cost + n) sums)
+
+-- WHAT IS TOLD IS TOLD ONCE
+far-or-near : (row : ThreadRow) (b : Bound) → IsNear row b → IsFar row b → ⊥
+far-or-near row b near (inl far) = omega (arith, near.0, far)
+far-or-near row b near (inr far) = omega (arith, near.1, far)
+
+over-or-within : (rows : List ThreadRow) (k i : ℕ) → IsWithin rows k i → IsOver rows k i → ⊥
+over-or-within rows k i within over = by (slice_get rows i) (slice_get (round rows k) i) within over
+  where
+    by : (o : Option ThreadRow) (q : Option Bound) → OfBoth IsNear o q → OfBoth IsFar o q → ⊥
+    by None q h k = h
+    by (Some row) None h k = h
+    by (Some row) (Some b) h k = far-or-near row b h k
+
+-- a number is below another, it, or above it
+three : (P : Type 0) (a b : ℕ) → (a < b → P) → (a ≡ b → P) → (b < a → P) → P
+three P a b less same more = go (nat_lt a b) (nat_lt b a) refl refl
+  where
+    go : (p q : Bool) → nat_lt a b ≡ p → nat_lt b a ≡ q → P
+    go true q e f = less (grind arith)
+    go false true e f = more (grind arith)
+    go false false e f = same (grind arith)
+
+rests-once : (rows : List ThreadRow) (i : ℕ) (b c : Bound) → IsSolved rows i b → IsSolved rows i c → b ≡ c
+rests-once rows i b c h k = some-same (sym (h.rests (h.from + k.from) (omega arith)) ∙ k.rests (h.from + k.from) (omega arith))
+
+solved-not-beyond : (rows : List ThreadRow) (i k : ℕ) (b c : Bound) → IsSolved rows i b → IsBeyond rows i k c → ⊥
+solved-not-beyond rows i k b c h beyond = over-or-within rows k i (h.followed k i itself) beyond.over
+
+solved-not-behind : (rows : List ThreadRow) (i s : ℕ) (b : Bound) → IsSolved rows i b → IsBehind rows i s → ⊥
+solved-not-behind rows i s b h behind =
+    over-or-within rows behind.round behind.lost.0 (h.followed behind.round behind.lost.0 (through behind.needs behind.lost.1)) behind.lost.2
+
+beyond-not-behind : (rows : List ThreadRow) (i k s : ℕ) (b : Bound) → IsBeyond rows i k b → IsBehind rows i s → ⊥
+beyond-not-behind rows i k s b beyond behind =
+    three ⊥ k behind.round (λ less. over-or-within rows k i (behind.followed k less i itself) beyond.over)
+    (λ same. over-or-within rows k i (subst (λ m. IsWithin rows m i) (sym same) behind.within) beyond.over)
+    (λ more. over-or-within rows behind.round behind.lost.0 (beyond.followed behind.round more behind.lost.0 (through behind.needs behind.lost.1))
+    behind.lost.2)
+
+given-up-once : (rows : List ThreadRow) (i k m : ℕ) (b c : Bound) → IsBeyond rows i k b → IsBeyond rows i m c → (k ≡ m) × (b ≡ c)
+given-up-once rows i k m b c h g =
+    three ((k ≡ m) × (b ≡ c)) k m (λ less. absurd (over-or-within rows k i (g.followed k less i itself) h.over))
+    (λ same. (same, some-same (sym h.told ∙ ap (λ n. slice_get (round rows n) i) same ∙ g.told)))
+    (λ more. absurd (over-or-within rows m i (h.followed m more i itself) g.over))
+
+pub told-once : ToldOnce
+told-once rows i (Solved j r) (Solved j' r') h g =
+    let same = rests-once rows i _ _ g h in ap (λ b. Solved b.jitter b.response) same
+told-once rows i (Solved j r) (Beyond k j' r') h g = absurd (solved-not-beyond rows i k _ _ h g)
+told-once rows i (Solved j r) (Behind s) h g = absurd (solved-not-behind rows i s _ h g)
+told-once rows i (Beyond k j r) (Solved j' r') h g = absurd (solved-not-beyond rows i k _ _ g h)
+told-once rows i (Beyond k j r) (Beyond m j' r') h g =
+    let same = given-up-once rows i m k _ _ g h in ap₂ (λ n b. Beyond n b.jitter b.response) same.0 same.1
+told-once rows i (Beyond k j r) (Behind s) h g = absurd (beyond-not-behind rows i k s _ h g)
+told-once rows i (Behind s) (Solved j r) h g = absurd (solved-not-behind rows i s _ g h)
+told-once rows i (Behind s) (Beyond k j r) h g = absurd (beyond-not-behind rows i k s _ g h)
+told-once rows i (Behind s) (Behind t) h g = tt

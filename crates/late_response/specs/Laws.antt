@@ -5,7 +5,9 @@ use Rattle.rt_response.specs.declared.rows.ThreadRow.{ThreadRow}
 use Rattle.rt_response.specs.declared.rows.Bound.{Bound}
 use Rattle.rt_response.specs.Tables.{IsTable}
 use Rattle.rt_response.specs.Response.{Entry, response_after, Meets, IsWithinLimits, IsLeastVector}
-use Rattle.late_response.specs.Late.{IsFar, IsSolved, IsBeyond}
+use Rattle.late_response.specs.declared.reach.Reach.{Reach}
+use Rattle.late_response.specs.declared.reach.Reach.TheVariants.{Solved, Beyond, Behind}
+use Rattle.late_response.specs.Late.{IsFar, IsSolved, IsBeyond, IsTold}
 
 -- no vector that meets the equations has less for a solved row
 abbrev pub SolvedIsLeast : Type 0
@@ -47,3 +49,15 @@ abbrev pub BeyondIsLate : Type 0
 BeyondIsLate =
     (rows : List ThreadRow) (i k : ℕ) (row : ThreadRow) (b c : Bound) (u : List Bound) → IsBeyond rows i k b → Meets rows u
     → slice_get rows i ≡ Some row → slice_get u i ≡ Some c → IsFar row c
+
+-- the same is told of a row, but that a row may be behind several starters
+abbrev pub AreSame : Reach → Reach → Type 0
+AreSame (Solved jitter response) r = r ≡ Solved jitter response
+AreSame (Beyond round jitter response) r = r ≡ Beyond round jitter response
+AreSame (Behind starter) (Solved jitter response) = ⊥
+AreSame (Behind starter) (Beyond round jitter response) = ⊥
+AreSame (Behind starter) (Behind other) = Unit {0}
+
+-- what is told of a row is the only thing that can be
+abbrev pub ToldOnce : Type 0
+ToldOnce = (rows : List ThreadRow) (i : ℕ) (r other : Reach) → IsTold rows i r → IsTold rows i other → AreSame r other

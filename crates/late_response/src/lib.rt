@@ -14,7 +14,7 @@ mod reach;
 mod sides;
 mod solving;
 
-ghost use Rattle.late_response.specs.Laws.{SolvedIsLeast, SolvedMeetsItsEquation, SolvedInTimeIsLeast, LeastIsSolved, BeyondIsLate};
+ghost use Rattle.late_response.specs.Laws.{SolvedIsLeast, SolvedMeetsItsEquation, SolvedInTimeIsLeast, LeastIsSolved, BeyondIsLate, ToldOnce};
 
 pub use per_mille::utilisation;
 pub use reach::Reach;
@@ -43,4 +43,9 @@ pub fn bounds_are_solved_rows()
 /// A row that is given up is late in every vector that meets the equations.
 pub fn rows_beyond_are_late()
     ensures { BeyondIsLate }
+{}
+
+/// What is told of a row is the only thing that can be, but that it may need several starters without a solution.
+pub fn rows_are_told_once()
+    ensures { ToldOnce }
 {}

@@ -1,16 +1,16 @@
 -- Examples: what is told of the rows of a table that misses: rows that are solved though late, one that is given up, and one behind it.
-use Rattle.std.specs.Prelude.{◌≡◌, ℕ, zero, suc, ◌+◌, ◌≤◌, ◌<◌, List, [], ◌∷◌, map, slice_get, Option, Some, None, refl}
-use Rattle.std.proofs.Common.{arith, lit≤, lit<, sym, ◌∙◌, ap, subst, ◌⊎◌, inl, inr}
+use Rattle.std.specs.Prelude.{◌≡◌, ℕ, zero, suc, ◌≤◌, ◌<◌, List, [], ◌∷◌, map, slice_get, Option, Some, None, refl}
+use Rattle.std.proofs.Common.{arith, lit≤, sym, ◌∙◌, ap, subst, ◌⊎◌, inl, inr}
 use Rattle.rt_response.specs.declared.rows.ThreadRow.{ThreadRow}
 use Rattle.rt_response.specs.declared.rows.Bound.{Bound}
-use Rattle.rt_response.specs.Response.{Entry, right_sides}
+use Rattle.rt_response.specs.Response.{right_sides}
 use Rattle.rt_response.specs.Rounds.{round}
 use Rattle.late_response.specs.declared.reach.Reach.{Reach}
 use Rattle.late_response.specs.declared.reach.Reach.TheVariants.{Solved, Beyond, Behind}
 use Rattle.late_response.specs.Late.{IsNear, IsFar, OfBoth, IsWithin, IsOver, Needs, DependsOn, itself, through, IsFollowed, IsSolved, IsBeyond}
 use Rattle.late_response.specs.Late.{IsBehind, IsTold, AreTold}
 use Rattle.late_response.specs.Laws.{HasJitter, AreAbove, AreSolved, AreSame}
-use Rattle.late_response.specs.Utilisation.{Fraction, plus, utilisation, IsPerMille}
+use Rattle.late_response.specs.Utilisation.{utilisation, IsPerMille}
 use Rattle.late_response.proofs.LateLaws.{told-once}
 use Rattle.late_response.proofs.Places.{some-same}
 

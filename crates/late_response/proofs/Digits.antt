@@ -1,5 +1,6 @@
 -- Numbers of many digits: how they grow digit by digit.
-use Rattle.std.specs.Prelude.{◌≡◌, ◌↔◌, ℕ, zero, suc, ◌+◌, ◌*◌, ◌≤◌, ◌<◌, List, [], ◌∷◌, ◌++◌, length, take, drop, set, get_or, nat_lt, Bool, true, false, refl}
+use Rattle.std.specs.Prelude.{◌≡◌, ◌↔◌, ℕ, zero, suc, ◌+◌, ◌*◌, ◌≤◌, ◌<◌, List, [], ◌∷◌, ◌++◌, length, take, drop, set, get_or}
+use Rattle.std.specs.Prelude.{nat_lt, Bool, true, false, refl}
 use Rattle.std.specs.Prelude.{◌-◌, ◌/◌, ◌%◌}
 use Rattle.std.proofs.Common.{sym, ◌∙◌, ap, subst, arith, add-one, add-zero, length-take, ◌⊎◌, inl, inr}
 use Rattle.std.proofs.Math.Nat.{mul-le-mul_left, mul-le-mul_right}
@@ -118,13 +119,19 @@ decided v w r a b before after hv hw was now = (λ h. to (now.0 h), λ h. now.1 
             inr (same, was.1 (omega (arith, h, ap (λ z. r * z) same)))
 
 -- SUMS OF FRACTIONS
+-- 32 digits have room for 30 rows, and more
+room-more : (done : ℕ) → done ≤ 30 → room (suc done) ≤ room 32
+room-more done few =
+    let same : 31 - done + suc done ≡ 32 = omega arith in
+    subst (λ n. room (suc done) ≤ room n) same (room-mono (suc done) (31 - done))
+
 -- the room that one row more takes
 pub fits-over : (over under p r done : ℕ) → p ≤ 1000000000 → r ≤ 1000000000 → over + under ≤ room done → done ≤ 30
     → over * p + under * r < room 32
 fits-over over under p r done hp hr h few =
     let first : over * p ≤ over * 1000000000 = mul-le-mul_left over hp in
     let second : under * r ≤ under * 1000000000 = mul-le-mul_left under hr in
-    let up : room (suc done) ≤ room 32 = subst (λ n. room (suc done) ≤ room n) (let same : 31 - done + suc done ≡ 32 = omega arith in same) (room-mono (suc done) (31 - done)) in
+    let up = room-more done few in
     omega (arith, room-suc done, room-positive done)
 
 pub fits-next-alone : (over under p done : ℕ) → p ≤ 1000000000 → over + under ≤ room done → done ≤ 30 → under * p + 0 < room 32
@@ -142,7 +149,7 @@ fits-next over under p r done hp hr h =
 
 pub fits-end : (n done : ℕ) → n ≤ room done → done ≤ 30 → n < room 32
 fits-end n done h few =
-    let up : room (suc done) ≤ room 32 = subst (λ n. room (suc done) ≤ room n) (let same : 31 - done + suc done ≡ 32 = omega arith in same) (room-mono (suc done) (31 - done)) in
+    let up = room-more done few in
     omega (arith, room-suc done, room-positive done)
 
 -- the parts of a sum stay those of its thousandfold

@@ -1,5 +1,5 @@
 -- The laws of what is told: the rounds stay below every vector that meets the equations, so solved rows are the least of them.
-use Rattle.std.specs.Prelude.{◌≡◌, ℕ, zero, suc, ◌+◌, ◌*◌, ◌≤◌, ◌<◌, List, [], ◌∷◌, length, take, zip, fold, slice_get, Option, Some, None, refl}
+use Rattle.std.specs.Prelude.{◌≡◌, ℕ, zero, suc, ◌+◌, ◌≤◌, ◌<◌, List, [], ◌∷◌, length, take, zip, fold, slice_get, Option, Some, None, refl}
 use Rattle.std.specs.Prelude.{nat_lt, Bool, true, false, option_map}
 use Rattle.std.specs.List.{AllZip}
 use Rattle.std.proofs.Common.{sym, ◌∙◌, ap, ap₂, subst, arith, le_refl, ◌⊎◌, inl, inr}
@@ -10,14 +10,15 @@ use Rattle.rt_response.specs.declared.rows.ThreadRow.{ThreadRow}
 use Rattle.rt_response.specs.declared.rows.Bound.{Bound}
 use Rattle.rt_response.specs.declared.excess.Excess.{Excess}
 use Rattle.rt_response.specs.Tables.{IsTable}
-use Rattle.rt_response.specs.Response.{Entry, interference, inherited, jitter_by, response_after, right_sides, IsAtMost, IsWithinLimits, IsLeastVector}
+use Rattle.rt_response.specs.Response.{Entry, interference, inherited, jitter_by, right_sides, IsAtMost, IsWithinLimits, IsLeastVector}
 use Rattle.rt_response.specs.Rounds.{first_jitter, round, before_round, first_excess}
 use Rattle.rt_response.proofs.Shared.Least.{round-below, at_most-refl, miss-none_fits}
 use Rattle.rt_response.proofs.Shared.Solving.{total, IsReached, reached-first, reached-next, reached-least, reached-miss, reached-few}
 use Rattle.rt_response.proofs.Shared.Solving.{round-next, bounds_eq-Decides, bounds_differ}
 use Rattle.late_response.specs.declared.reach.Reach.TheVariants.{Solved, Beyond, Behind}
 use Rattle.late_response.specs.Late.{IsNear, IsFar, OfBoth, Needs, DependsOn, itself, through, IsWithin, IsOver, IsSolved, IsBeyond, IsBehind}
-use Rattle.late_response.specs.Laws.{SolvedIsLeast, HasJitter, AreAbove, SolvedMeetsItsEquation, AreSolved, SolvedInTimeIsLeast, LeastIsSolved, BeyondIsLate, ToldOnce}
+use Rattle.late_response.specs.Laws.{SolvedIsLeast, HasJitter, AreAbove, SolvedMeetsItsEquation, AreSolved, SolvedInTimeIsLeast}
+use Rattle.late_response.specs.Laws.{LeastIsSolved, BeyondIsLate, ToldOnce}
 use Rattle.late_response.specs.Progress.{StartsAt}
 use Rattle.late_response.proofs.Places.{some-same, some-none, at_most-at, round-long, rounds-rise, round-suc, round-has, starts-within}
 use Rattle.late_response.proofs.Places.{needs-starts, of-both, from-both}

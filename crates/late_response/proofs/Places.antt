@@ -1,12 +1,12 @@
 -- The rounds by their places: they rise, and each value rests on those of the round before.
-use Rattle.std.specs.Prelude.{◌≡◌, ℕ, zero, suc, ◌+◌, ◌≤◌, ◌<◌, List, [], ◌∷◌, length, map, zip, take, replicate, get_or, slice_get, Option, Some, None, refl}
-use Rattle.std.proofs.Common.{sym, ◌∙◌, ap, subst, arith, zero-le}
+use Rattle.std.specs.Prelude.{◌≡◌, ℕ, zero, suc, ◌+◌, ◌≤◌, ◌<◌, List, [], ◌∷◌, length, zip, take, replicate, get_or, slice_get, Option, Some, None}
+use Rattle.std.proofs.Common.{sym, subst, arith, zero-le}
 use Rattle.std.proofs.Math.ListN.{length-map}
 use Rattle.std.proofs.lemmas.Option.{slice_get_within, get_or_from_slice_get, slice_get-get_or}
 use Rattle.rt_response.specs.declared.rows.ThreadRow.{ThreadRow}
 use Rattle.rt_response.specs.declared.rows.Bound.{Bound}
 use Rattle.rt_response.specs.Tables.{Each, IsRow, IsStarter, IsTable}
-use Rattle.rt_response.specs.Response.{jitter_by, response_after, right_sides, IsAtMost}
+use Rattle.rt_response.specs.Response.{jitter_by, response_after, IsAtMost}
 use Rattle.rt_response.specs.Rounds.{first_jitter, round, before_round}
 use Rattle.rt_response.proofs.Shared.Least.{right_sides-mono}
 use Rattle.rt_response.proofs.Shared.Places.{right_sides-at, right_sides-long}

@@ -8,7 +8,8 @@ use Rattle.rt_response.specs.Tables.{Each, IsRow, IsTable}
 use Rattle.late_response.specs.declared.reach.Reach.{Reach}
 use Rattle.late_response.specs.declared.reach.Reach.TheVariants.{Solved, Beyond, Behind}
 use Rattle.late_response.specs.declared.progress.Known.{Known}
-use Rattle.late_response.specs.Progress.{IsSmall, IsSmallReach, AreSmall, IsTaken, reach_of, first_of, first_in, next_jitter, next_reach, next_of, next_from, next_at}
+use Rattle.late_response.specs.Progress.{IsSmall, IsSmallReach, AreSmall, IsTaken, reach_of, first_of, first_in}
+use Rattle.late_response.specs.Progress.{next_jitter, next_reach, next_of, next_from, next_at}
 use Rattle.late_response.specs.Progress.{sum_or, marked_at, behind_in, behind_of, worth, total, left_of, next_response}
 use Rattle.late_response.proofs.Places.{some-same, some-none, each-place}
 

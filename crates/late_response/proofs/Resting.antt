@@ -1,20 +1,19 @@
 -- The values rise from round to round, and where their sum stays they stay for ever.
 use Rattle.std.specs.Prelude.{◌≡◌, ℕ, zero, suc, ◌+◌, ◌*◌, ◌≤◌, ◌<◌, List, length, slice_get, Option, Some, None, refl}
 use Rattle.std.specs.Prelude.{nat_lt, Bool, true, false, if◌then◌else◌, get_or}
-use Rattle.std.proofs.Common.{sym, ◌∙◌, ap, ap₂, subst, arith, le_refl, ◌⊎◌, inl, inr}
+use Rattle.std.proofs.Common.{sym, ◌∙◌, ap, ap₂, subst, arith, le_refl}
 use Rattle.std.proofs.lemmas.Option.{slice_get_within, slice_get-get_or, slice_get_past}
 use Rattle.rt_response.specs.declared.rows.ThreadRow.{ThreadRow}
-use Rattle.rt_response.specs.declared.rows.Bound.{Bound}
 use Rattle.rt_response.specs.Tables.{IsTable}
 use Rattle.rt_response.specs.Response.{jitter_by}
 use Rattle.rt_response.specs.Rounds.{round}
 use Rattle.late_response.specs.declared.reach.Reach.{Reach}
 use Rattle.late_response.specs.declared.reach.Reach.TheVariants.{Solved, Beyond, Behind}
 use Rattle.late_response.specs.declared.progress.Known.{Known}
-use Rattle.late_response.specs.Late.{IsSolved, IsTold}
-use Rattle.late_response.specs.Progress.{IsLive, reach_of, sum_or, next_jitter, next_response, next_reach, next_of, next_from, next_at}
-use Rattle.late_response.specs.Progress.{IsSmallReach, IsSmall, AreSmall, left_of, worth, total, StartsAt, IsLiveIn, IsFed, Stands, IsClosed}
-use Rattle.late_response.proofs.Places.{some-same, some-none, at_most-at, rounds-rise, round-suc, round-has}
+use Rattle.late_response.specs.Late.{IsTold}
+use Rattle.late_response.specs.Progress.{reach_of, sum_or, next_jitter, next_response, next_reach, next_of, next_from, next_at}
+use Rattle.late_response.specs.Progress.{IsSmallReach, AreSmall, left_of, worth, total, IsLiveIn, IsFed, Stands, IsClosed}
+use Rattle.late_response.proofs.Places.{some-same, at_most-at, rounds-rise, round-suc, round-has}
 use Rattle.late_response.proofs.Progressing.{next-parts, next-is, total-stays}
 use Rattle.late_response.proofs.Standing.{live-is, fed-jitter, next-told, next-stand}
 
@@ -26,7 +25,8 @@ fed-rises rows k xs place row x table stands is at fed =
     let side = round-suc rows k place row has.0 is has.1 in
     let rise = (at_most-at (round rows k) (round rows (suc k)) place has.0 _ (rounds-rise rows k table.each) has.1 side).0 in
     let mine : has.0.jitter ≡ x.jitter = stands.jitters place x at fed has.0 has.1 in
-    let next : next_jitter xs row x.jitter row.starter ≡ jitter_by (round rows k) row row.starter = fed-jitter rows k xs place x.jitter row stands is fed in
+    let next : next_jitter xs row x.jitter row.starter ≡ jitter_by (round rows k) row row.starter
+    = fed-jitter rows k xs place x.jitter row stands is fed in
     subst (λ n. n ≤ next_jitter xs row x.jitter row.starter) mine (subst (λ n. has.0.jitter ≤ n) (sym next) rise)
 
 -- and stays elsewhere
@@ -40,6 +40,13 @@ jitter-rises rows k xs place row x table stands is at = by row.starter refl
     none : {s : ℕ} → None ≡ Some s → ⊥
     none e = cc
 
+    stays : {s : ℕ} {o : Option Known} → row.starter ≡ Some s → slice_get xs s ≡ o → sum_or x.jitter o ≡ x.jitter
+        → x.jitter ≤ next_jitter xs row x.jitter row.starter
+    stays e f same =
+        let stay : next_jitter xs row x.jitter row.starter ≡ x.jitter
+        = ap (λ p. next_jitter xs row x.jitter p) e ∙ ap (λ q. sum_or x.jitter q) f ∙ same in
+        subst (λ z. x.jitter ≤ z) (sym stay) (le_refl x.jitter)
+
     by : (o : Option ℕ) → row.starter ≡ o → x.jitter ≤ next_jitter xs row x.jitter row.starter
     by None e = fed-rises rows k xs place row x table stands is at
         (λ s started. absurd (none (sym e ∙ ap (λ r. r.starter) (some-same (sym is ∙ started.is)) ∙ started.started)))
@@ -51,16 +58,13 @@ jitter-rises rows k xs place row x table stands is at = by row.starter refl
             = other (sym e ∙ ap (λ r. r.starter) (some-same (sym is ∙ started.is)) ∙ started.started) in
             subst (λ z. IsLiveIn (slice_get xs z)) same (live-is xs s _ f tt))
         reach n (Beyond a j r) f =
-            let stays : next_jitter xs row x.jitter row.starter ≡ x.jitter = ap (λ o. next_jitter xs row x.jitter o) e ∙ ap (λ o. sum_or x.jitter o) f in
-            subst (λ z. x.jitter ≤ z) (sym stays) (le_refl x.jitter)
+            stays e f refl
         reach n (Behind t) f =
-            let stays : next_jitter xs row x.jitter row.starter ≡ x.jitter = ap (λ o. next_jitter xs row x.jitter o) e ∙ ap (λ o. sum_or x.jitter o) f in
-            subst (λ z. x.jitter ≤ z) (sym stays) (le_refl x.jitter)
+            stays e f refl
 
         live : (o : Option Known) → slice_get xs s ≡ o → x.jitter ≤ next_jitter xs row x.jitter row.starter
         live None f =
-            let stays : next_jitter xs row x.jitter row.starter ≡ x.jitter = ap (λ o. next_jitter xs row x.jitter o) e ∙ ap (λ o. sum_or x.jitter o) f in
-            subst (λ z. x.jitter ≤ z) (sym stays) (le_refl x.jitter)
+            stays e f refl
         live (Some y) f = reach y.jitter y.reach f
 
 -- a row that is given up counts for more than its response time
@@ -91,7 +95,8 @@ next-rises rows k xs ys table stands closed small next i x y at there =
     let parts = next-parts rows xs (suc k) i y (sym (next i) ∙ there) in
     let same : parts.old ≡ x = some-same (sym parts.at ∙ at) in
     let made : next_of rows xs (suc k) i parts.row x ≡ y = ap (λ z. next_of rows xs (suc k) i parts.row z) (sym same) ∙ parts.same in
-    let both : (x.jitter ≤ (next_of rows xs (suc k) i parts.row x).jitter) × (left_of x.reach ≤ left_of (next_of rows xs (suc k) i parts.row x).reach) = (
+    let both : (x.jitter ≤ (next_of rows xs (suc k) i parts.row x).jitter)
+    × (left_of x.reach ≤ left_of (next_of rows xs (suc k) i parts.row x).reach) = (
       jitter-rises rows k xs i parts.row x table stands parts.is at,
       left-rises rows k xs i x.jitter parts.row x.reach table stands closed (small i x at).reach parts.is at,
     ) in

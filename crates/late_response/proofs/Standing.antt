@@ -1,23 +1,23 @@
 -- The rounds that the code holds: what stands in a round stands when rows are marked, and in the next round.
-use Rattle.std.specs.Prelude.{◌≡◌, ℕ, zero, suc, ◌+◌, ◌*◌, ◌≤◌, ◌<◌, List, [], ◌∷◌, length, zip, take, fold, sum_by, slice_get, Option, Some, None, refl, get_or}
-use Rattle.std.specs.Prelude.{nat_lt, Bool, true, false, if◌then◌else◌}
+use Rattle.std.specs.Prelude.{◌≡◌, ℕ, zero, suc, ◌+◌, ◌*◌, ◌≤◌, ◌<◌, List, [], ◌∷◌, length, zip, take, fold, slice_get, Option, Some, None, refl}
+use Rattle.std.specs.Prelude.{nat_lt, Bool, true, false, if◌then◌else◌, option_map, get_or}
 use Rattle.std.proofs.Common.{sym, ◌∙◌, ap, ap₂, subst, arith, le_refl, ◌⊎◌, inl, inr}
 use Rattle.std.proofs.lemmas.Option.{slice_get_within, slice_get-map, slice_get-get_or}
-use Rattle.std.specs.Prelude.{option_map}
 use borrow.Author.Count.{below_more}
 use Rattle.rt_response.specs.declared.rows.ThreadRow.{ThreadRow}
 use Rattle.rt_response.specs.declared.rows.Bound.{Bound}
-use Rattle.rt_response.specs.Tables.{Each, IsRow, IsTable}
+use Rattle.rt_response.specs.Tables.{IsTable}
 use Rattle.rt_response.specs.Response.{interference, inherited, jitter_by, response_after}
 use Rattle.rt_response.specs.Rounds.{first_jitter, round}
 use Rattle.late_response.specs.declared.reach.Reach.{Reach}
 use Rattle.late_response.specs.declared.reach.Reach.TheVariants.{Solved, Beyond, Behind}
 use Rattle.late_response.specs.declared.progress.Known.{Known}
-use Rattle.late_response.specs.Late.{IsNear, IsFar, Needs, DependsOn, itself, through, IsWithin, IsOver, IsFollowed, IsBeyond, IsBehind}
-use Rattle.late_response.specs.Progress.{IsLive, reach_of, first_of, first_in, sum_or, next_jitter, taken, next_response, next_reach, next_of, next_at}
-use Rattle.late_response.specs.Progress.{behind_of, marked_at, IsSmallReach, IsSmall, AreSmall, left_of, worth, IsLost, IsLiveRow, IsKnown, HasJitterIn, StartsAt}
+use Rattle.late_response.specs.Late.{IsNear, IsFar, Needs, DependsOn, itself, through, IsOver, IsFollowed}
+use Rattle.late_response.specs.Progress.{IsLive, reach_of, first_of, first_in, sum_or, next_jitter, taken}
+use Rattle.late_response.specs.Progress.{next_response, next_reach, next_of, next_at}
+use Rattle.late_response.specs.Progress.{behind_of, marked_at, IsLost, IsLiveRow, IsKnown, HasJitterIn, StartsAt}
 use Rattle.late_response.specs.Progress.{IsLiveIn, IsFed, Stands, IsClosed}
-use Rattle.late_response.proofs.Places.{some-same, some-none, each-place, at_most-at, round-long, rounds-rise, round-suc, round-has, starts-within}
+use Rattle.late_response.proofs.Places.{some-same, some-none, round-long, round-suc, round-has, starts-within}
 use Rattle.late_response.proofs.Places.{needs-starts, starts-needs, of-both}
 use Rattle.late_response.proofs.Progressing.{next-parts, next-is, marked-parts}
 
@@ -45,9 +45,6 @@ live-at xs i h = by (slice_get xs i) refl h
 
 pub live-is : (xs : List Known) (i : ℕ) (x : Known) → slice_get xs i ≡ Some x → IsLive x.reach → IsLiveIn (slice_get xs i)
 live-is xs i x e h = subst (λ o. IsLiveIn o) (sym e) h
-
-pub live-value : (xs : List Known) (i : ℕ) (x : Known) → slice_get xs i ≡ Some x → IsLiveIn (slice_get xs i) → IsLive x.reach
-live-value xs i x e h = subst (λ o. IsLiveIn o) e h
 
 live-row : (rows : List ThreadRow) (k : ℕ) (xs : List Known) (i : ℕ) → Stands rows k xs → (l : LiveAt xs i)
     → (l.held ≡ l.jitter) × IsLiveRow rows k i l.jitter l.response
@@ -355,7 +352,8 @@ next-stand rows k xs ys table stands closed long next = record { long = long; ea
         let row = get_or rows s needs.row in
         let old : Known = record { jitter = l.held; reach = Solved l.jitter l.response } in
         let at : slice_get ys s ≡ Some (next_of rows xs (suc k) s row old) = next s ∙ next-is rows xs (suc k) s row old here l.is in
-        by row l.held l.jitter l.response at (judged-lost rows (suc k) s (next_jitter xs row l.held row.starter) (next_response rows xs s row l.response) row
+        by row l.held l.jitter l.response at (judged-lost rows (suc k) s (next_jitter xs row l.held row.starter)
+        (next_response rows xs s row l.response) row
         here (next-told rows k xs s l.held l.held l.jitter l.response row stands closed here l.is))
       where
         by : (row : ThreadRow) (n j r : ℕ) → slice_get ys s ≡ Some (next_of rows xs (suc k) s row (record { jitter = n; reach = Solved j r }))

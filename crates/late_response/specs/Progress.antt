@@ -1,6 +1,6 @@
 -- What the code holds of each row in a round, and the next round of it.
 -- Only the crate's own functions speak of these; the promise of `respond_late` does not.
-use Rattle.std.specs.Prelude.{◌≡◌, ℕ, suc, ◌+◌, ◌*◌, ◌≤◌, ◌<◌, ◌⊎◌, List, [], ◌∷◌, length, take, zip, sum_by, Option, Some, None, slice_get}
+use Rattle.std.specs.Prelude.{◌≡◌, ℕ, ◌+◌, ◌*◌, ◌≤◌, ◌<◌, ◌⊎◌, List, [], ◌∷◌, length, take, zip, sum_by, Option, Some, None, slice_get}
 use Rattle.std.specs.Prelude.{nat_lt, if◌then◌else◌}
 use Rattle.rt_response.specs.declared.rows.ThreadRow.{ThreadRow}
 use Rattle.rt_response.specs.declared.rows.Bound.{Bound}

@@ -1,4 +1,4 @@
-use Rattle.std.proofs.Common.{◌+◌, arith, ap, ◌∙◌, sym, refl}
+use Rattle.std.proofs.Common.{arith, refl}
 use Rattle.late_response.proofs.Standing.{marked-stand, marked-live, closed-at}
 use Rattle.late_response.proofs.Progressing.{marked-small, marked-worth, total-rises}
 use Rattle.late_response.proofs.behind.close.Goals as goal

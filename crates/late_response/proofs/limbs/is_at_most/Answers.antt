@@ -1,4 +1,4 @@
-use Rattle.std.proofs.Common.{◌≡◌, ◌+◌, ◌<◌, length, arith}
+use Rattle.std.proofs.Common.{◌<◌, length, arith}
 use Rattle.late_response.proofs.Digits.{value-next, value-below, decided}
 use Rattle.late_response.proofs.limbs.is_at_most.Goals as goal
 

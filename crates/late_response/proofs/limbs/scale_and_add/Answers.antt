@@ -1,4 +1,4 @@
-use Rattle.std.proofs.Common.{◌≡◌, ◌+◌, ◌*◌, ◌<◌, ◌≤◌, ◌/◌, ◌%◌, length, take, get_or, arith, add-one, ap, ap₂, ◌∙◌, sym, take_all}
+use Rattle.std.proofs.Common.{◌≡◌, ◌+◌, ◌*◌, ◌<◌, length, get_or, arith, add-one, ap, ap₂, ◌∙◌, take_all}
 use Rattle.late_response.specs.Limbs.{value, room}
 use Rattle.late_response.proofs.Digits.{room-suc, value-next, value-put, turn, carry-small, carried, left-next, left-here}
 use Rattle.late_response.proofs.limbs.scale_and_add.Goals as goal
@@ -14,16 +14,21 @@ digits-preserved c =
     = ap₂ (λ x y. x * y) (c.from.ensures ∙ here) c.from-in-digits.ensures in
     let second : c.from-in-digits-2.result * c.from-in-digits-3.result ≡ get_or c.args.plus.now c.digits.index 0 * c.args.times
     = ap₂ (λ x y. x * y) c.from-in-digits-2.ensures c.from-in-digits-3.ensures in
+    let digit : c.from.result < 4294967296 = omega (arith, c.from.ensures, here, c.from.type_inv) in
+    let fits = c.type_inv.plus c.digits.index in
+    let other : c.from-in-digits-2.result < 4294967296 = omega (arith, c.from-in-digits-2.ensures, fits) in
     record {
       done = rw (
         value-put c.digits.digits c.digits.index _ inside,
         value-next c.args.digits.now c.digits.index 0 inside_old,
         value-next c.args.plus.now c.digits.index 0 inside_plus,
       )
-          (turn _ _ _ _ _ _ _ _ _ _ _ _ c.digits.invariant.done (omega (arith, first, second)) (ap room (add-one c.digits.index) ∙ room-suc c.digits.index));
+          (turn _ _ _ _ _ _ _ _ _ _ _ _ c.digits.invariant.done (omega (arith, first, second))
+          (ap room (add-one c.digits.index) ∙ room-suc c.digits.index));
       left = left-next c.digits.digits c.args.digits.now c.digits.index _ c.digits.invariant.left;
-      carry = rw (c.from-in-digits.ensures, c.from-in-digits-3.ensures) (carry-small c.from.result c.from-in-digits-2.result c.args.by c.args.times c.digits.carry
-          (omega (arith, c.from.ensures, here, c.from.type_inv)) (omega (arith, c.from-in-digits-2.ensures, (let fits = c.type_inv.plus c.digits.index in fits))) c.requires.by c.requires.times c.digits.invariant.carry);
+      carry = rw (c.from-in-digits.ensures, c.from-in-digits-3.ensures)
+          (carry-small c.from.result c.from-in-digits-2.result c.args.by c.args.times c.digits.carry digit other c.requires.by c.requires.times
+          c.digits.invariant.carry);
     }
 
 pub returns : goal.returns

@@ -1,6 +1,6 @@
-use Rattle.std.proofs.Common.{◌≡◌, ◌+◌, ◌*◌, ◌≤◌, ◌<◌, ◌/◌, ◌%◌, length, fold, arith, refl, lit≤, ap, ◌∙◌, sym, subst}
-use Rattle.late_response.specs.Limbs.{value, room}
-use Rattle.late_response.specs.Utilisation.{Fraction, plus}
+use Rattle.std.proofs.Common.{◌≡◌, ◌+◌, ◌*◌, ◌/◌, ◌%◌, length, fold, arith, refl, lit≤, ap, ◌∙◌, sym}
+use Rattle.late_response.specs.Limbs.{value}
+use Rattle.late_response.specs.Utilisation.{plus}
 use Rattle.late_response.proofs.Digits.{room-zero, fits-over, fits-next, fits-next-alone, fits-end, sum-next, few-next}
 use Rattle.late_response.proofs.Digits.{each-first, row-period, rest-small, rest-whole, quotient-small, product-positive}
 use Rattle.late_response.proofs.per_mille.utilisation.Goals as goal

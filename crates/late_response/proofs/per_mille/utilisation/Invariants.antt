@@ -1,4 +1,4 @@
-use Rattle.std.proofs.Common.{◌≡◌, ◌+◌, ◌*◌, ◌≤◌, ◌<◌, ℕ, length, fold}
+use Rattle.std.proofs.Common.{◌≡◌, ◌+◌, ◌*◌, ◌≤◌, ℕ, length, fold}
 use Rattle.rt_response.specs.Tables.{Each, IsRow}
 use Rattle.late_response.specs.Limbs.{value, room}
 use Rattle.late_response.specs.Utilisation.{Fraction, plus, utilisation}

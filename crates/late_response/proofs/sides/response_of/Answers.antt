@@ -1,4 +1,4 @@
-use Rattle.std.proofs.Common.{◌+◌, refl, None}
+use Rattle.std.proofs.Common.{refl, None}
 use Rattle.std.proofs.lemmas.Option.{get_or_from_slice_get}
 use Rattle.late_response.proofs.Progressing.{taken-front}
 use Rattle.late_response.proofs.sides.response_of.Goals as goal

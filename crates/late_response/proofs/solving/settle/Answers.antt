@@ -1,5 +1,4 @@
-use Rattle.std.proofs.Common.{◌≡◌, ◌+◌, ◌*◌, ◌≤◌, ◌<◌, length, List, arith, add-one, zero-le, sym, subst}
-use Rattle.late_response.specs.declared.progress.Known.{Known}
+use Rattle.std.proofs.Common.{◌+◌, ◌*◌, ◌≤◌, arith, add-one, zero-le, sym, subst}
 use Rattle.late_response.specs.Progress.{AreSmall, Stands, total}
 use Rattle.late_response.proofs.Standing.{firsts-stand, next-stand}
 use Rattle.late_response.proofs.Progressing.{firsts-small, next-small, total-few, total-rises}

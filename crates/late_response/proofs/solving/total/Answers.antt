@@ -1,4 +1,4 @@
-use Rattle.std.proofs.Common.{◌+◌, suc, length, arith, ap, ◌∙◌}
+use Rattle.std.proofs.Common.{suc, length, arith, ap, ◌∙◌}
 use Rattle.std.specs.List.{slice_get}
 use Rattle.late_response.specs.Progress.{total}
 use Rattle.late_response.proofs.solving.total.Goals as goal

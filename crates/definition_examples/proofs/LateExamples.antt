@@ -9,7 +9,7 @@ use Rattle.late_response.specs.declared.reach.Reach.{Reach}
 use Rattle.late_response.specs.declared.reach.Reach.TheVariants.{Solved, Beyond, Behind}
 use Rattle.late_response.specs.Late.{IsNear, IsFar, OfBoth, IsWithin, IsOver, Needs, DependsOn, itself, through, IsFollowed, IsSolved, IsBeyond}
 use Rattle.late_response.specs.Late.{IsBehind, IsTold, AreTold}
-use Rattle.late_response.specs.Laws.{HasJitter, AreAbove, AreSolved, AreSame}
+use Rattle.late_response.specs.Laws.{HasJitter, AreAbove, AreSolved, AreSame, told_sum, told_jitter, told_entry, IsInTime, solved_with}
 use Rattle.late_response.specs.Utilisation.{utilisation, IsPerMille}
 use Rattle.late_response.proofs.LateLaws.{told-once}
 use Rattle.late_response.proofs.Places.{some-same}
@@ -371,6 +371,33 @@ above_other_row h = (let e = ap (λ r. r.cost) h.0.0 in omega (arith, e))
 
 above_none : AreAbove fine 1 [] → ⊥
 above_none h = h
+
+-- the jitters that are told: a row's own, that of a starter that is solved, and none of one that isn't
+jitters_told : map (λ r. told_jitter (Solved 4 2 ∷ Beyond 3 0 40 ∷ Behind 1 ∷ []) r r.starter)
+    (record short { jitter = 5 } ∷ row 50 1 (Some 0) ∷ row 50 1 (Some 1) ∷ row 50 1 (Some 2) ∷ row 50 1 (Some 3) ∷ []) ≡ 5 ∷ 6 ∷ 0 ∷ 0 ∷ 0 ∷ []
+jitters_told = refl
+
+entry_told : told_entry (Solved 4 2 ∷ []) (row 50 1 (Some 0)) ≡ (row 50 1 (Some 0), bound 6 0)
+entry_told = refl
+
+with_bound : solved_with (bound 2 3) ≡ Solved 2 3
+with_bound = refl
+
+-- ROWS IN TIME
+in_time : IsInTime short (Solved 4 3)
+in_time = (lit≤ tt, lit≤ tt)
+
+over_deadline : IsInTime short (Solved 0 4) → ⊥
+over_deadline h = omega (arith, h.0)
+
+over_period : IsInTime short (Solved 5 3) → ⊥
+over_period h = omega (arith, h.1)
+
+given_up_is_late : IsInTime short (Beyond 0 0 1) → ⊥
+given_up_is_late h = h
+
+behind_is_late : IsInTime short (Behind 0) → ⊥
+behind_is_late h = h
 
 -- THE SAME IS TOLD
 same_solution : AreSame (Solved 2 3) (Solved 2 3)

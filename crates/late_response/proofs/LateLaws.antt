@@ -39,7 +39,7 @@ beyond-late rows i k row b c u beyond meets is at =
 
 -- SOLVED ROWS WITHIN THE LIMITS
 -- two vectors with the same element at each place
-same-places : (v u : List Bound) → length v ≡ length u → ((i : ℕ) (x : Bound) → slice_get v i ≡ Some x → slice_get u i ≡ Some x) → v ≡ u
+pub same-places : {A : Type 0} (v u : List A) → length v ≡ length u → ((i : ℕ) (x : A) → slice_get v i ≡ Some x → slice_get u i ≡ Some x) → v ≡ u
 same-places [] [] h k = refl
 same-places [] (y ∷ u) h k = absurd (omega arith)
 same-places (x ∷ v) [] h k = absurd (omega arith)
@@ -379,7 +379,7 @@ far-or-near : (row : ThreadRow) (b : Bound) → IsNear row b → IsFar row b →
 far-or-near row b near (inl far) = omega (arith, near.0, far)
 far-or-near row b near (inr far) = omega (arith, near.1, far)
 
-over-or-within : (rows : List ThreadRow) (k i : ℕ) → IsWithin rows k i → IsOver rows k i → ⊥
+pub over-or-within : (rows : List ThreadRow) (k i : ℕ) → IsWithin rows k i → IsOver rows k i → ⊥
 over-or-within rows k i within over = by (slice_get rows i) (slice_get (round rows k) i) within over
   where
     by : (o : Option ThreadRow) (q : Option Bound) → OfBoth IsNear o q → OfBoth IsFar o q → ⊥
@@ -396,7 +396,7 @@ three P a b less same more = go (nat_lt a b) (nat_lt b a) refl refl
     go false true e f = more (grind arith)
     go false false e f = same (grind arith)
 
-rests-once : (rows : List ThreadRow) (i : ℕ) (b c : Bound) → IsSolved rows i b → IsSolved rows i c → b ≡ c
+pub rests-once : (rows : List ThreadRow) (i : ℕ) (b c : Bound) → IsSolved rows i b → IsSolved rows i c → b ≡ c
 rests-once rows i b c h k = some-same (sym (h.rests (h.from + k.from) (omega arith)) ∙ k.rests (h.from + k.from) (omega arith))
 
 solved-not-beyond : (rows : List ThreadRow) (i k : ℕ) (b c : Bound) → IsSolved rows i b → IsBeyond rows i k c → ⊥

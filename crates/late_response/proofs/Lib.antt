@@ -4,3 +4,4 @@ pub mod Standing
 pub mod Resting
 pub mod LateLaws
 pub mod Digits
+pub mod ToldLaws

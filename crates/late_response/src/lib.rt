@@ -15,6 +15,7 @@ mod sides;
 mod solving;
 
 ghost use Rattle.late_response.specs.Laws.{SolvedIsLeast, SolvedMeetsItsEquation, SolvedInTimeIsLeast, LeastIsSolved, BeyondIsLate, ToldOnce};
+ghost use Rattle.late_response.specs.Laws.{ToldMeetsItsEquation, NoneIsLate, LeastIsTold};
 
 pub use per_mille::utilisation;
 pub use reach::Reach;
@@ -48,4 +49,19 @@ pub fn rows_beyond_are_late()
 /// What is told of a row is the only thing that can be, but that it may need several starters without a solution.
 pub fn rows_are_told_once()
     ensures { ToldOnce }
+{}
+
+/// The numbers that are told of a solved row are those of its equation, with the jitters that are told of the starters above it.
+pub fn told_rows_meet_their_equations()
+    ensures { ToldMeetsItsEquation }
+{}
+
+/// No row is late exactly where there is a least vector within the limits, so where `respond` answers Ok.
+pub fn none_is_late_where_bounds_are()
+    ensures { NoneIsLate }
+{}
+
+/// Where there is a least vector within the limits, it is what is told.
+pub fn bounds_are_told()
+    ensures { LeastIsTold }
 {}

@@ -6,14 +6,14 @@ use crate::progress::Known;
 use crate::reach::Reach;
 use rt_response::ThreadRow;
 
-/// Whether a row is live.
+/// Returns whether a row is live.
 fn is_live(reach: &Reach) -> bool
     ensures { (result ≡ true) ↔ IsLive reach.now }
 {
     matches!(reach, Reach::Solved { .. })
 }
 
-/// The starter of a row, where it has one that is not live.
+/// Returns the starter of a row, where it has one that is not live.
 fn lost_starter(row: &ThreadRow, known: &[Known]) -> Option<u32>
     requires { IsStarter (length known.now) row.now.starter }
     ensures some { IfSome result (λ s. (row.now.starter ≡ Some s) × (IsLiveIn (slice_get known.now s) → ⊥)) }
@@ -26,7 +26,7 @@ fn lost_starter(row: &ThreadRow, known: &[Known]) -> Option<u32>
     Some(starter)
 }
 
-/// The first of so many rows whose starter is not live, with that starter.
+/// Returns the first of so many rows whose starter is not live, with that starter.
 fn first_behind(table: &[ThreadRow], known: &[Known], count: usize) -> Option<(usize, u32)>
     requires table { IsTable table.now }
     requires long { length known.now ≡ length table.now }
@@ -44,7 +44,7 @@ fn first_behind(table: &[ThreadRow], known: &[Known], count: usize) -> Option<(u
     None
 }
 
-/// A row with a starter noted that is not live, where the row is.
+/// Returns a row with a starter noted that is not live, where the row is.
 fn behind_of(known: &Known, starter: u32) -> Known
     ensures { result ≡ behind_by starter known.now }
 {

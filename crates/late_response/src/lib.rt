@@ -3,7 +3,8 @@
 //!
 //! It stands on the equations and the rounds of `rt_response`. `respond_late` carries its promise: what it tells of each row is so by the
 //! definitions of `specs/Late`. That solved rows are the least solution, that they are the bounds of `respond` where there are some, and
-//! that a row that is given up is late in every solution, are laws over the definitions.
+//! that a row that is given up is late in every solution, are laws over the definitions. `utilisation` is the sum of cost / period of all
+//! rows in whole per mille, computed as an exact fraction.
 #![tactic(auto)]
 
 mod behind;

@@ -22,14 +22,14 @@ pub fn scale_and_add(digits: &mut [u32], by: u32, plus: &[u32], times: u32)
     }
 }
 
-/// Whether one more digit leaves a number at most another.
+/// Returns whether one more digit leaves a number at most another.
 fn is_at_most_with(left: u32, right: u32, before: bool) -> bool
     ensures { (result ≡ true) ↔ ((left < right) ⊎ ((left ≡ right) × (before ≡ true))) }
 {
     left < right || (left == right && before)
 }
 
-/// Whether a number is at most another of as many digits.
+/// Returns whether a number is at most another of as many digits.
 pub fn is_at_most(left: &[u32], right: &[u32]) -> bool
     requires long { length left.now ≡ length right.now }
     ensures { (result ≡ true) ↔ (value left.now ≤ value right.now) }

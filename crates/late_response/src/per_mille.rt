@@ -6,10 +6,10 @@ ghost use Rattle.late_response.specs.Utilisation.{IsPerMille, utilisation as uti
 use crate::limbs::{is_at_most, scale_and_add};
 use rt_response::ThreadRow;
 
-/// The digits, to the base 2^32, of numbers up to 10^9 to the 30th times 1000 and more.
+/// The digits, to the base 2^32, that numbers up to 1000 times (10^9)^30 need, and some more.
 const DIGITS: usize = 32;
 
-/// How often a number goes into another, which is at most so many times.
+/// Returns how often a number goes into another, which is at most 30 times.
 fn quotient(over: &[u32], under: &[u32]) -> u64
     requires long { length under.now ≡ length over.now }
     requires length { length over.now ≡ 32 }
@@ -30,7 +30,8 @@ fn quotient(over: &[u32], under: &[u32]) -> u64
     count
 }
 
-/// The utilisation of a table in per mille, rounded down: the sum of cost / period of all rows, exactly.
+/// Returns the utilisation of a table in per mille, rounded down: the sum of cost / period of all rows. The sum is an exact fraction, so
+/// nothing is lost on the way, and it is at most 30,000,000,000,000.
 pub fn utilisation(table: &[ThreadRow]) -> u64
     requires { IsTable table.now }
     ensures { IsPerMille (utilisation_of table.now) result }

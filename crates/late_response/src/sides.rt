@@ -8,7 +8,7 @@ use crate::progress::Known;
 use crate::reach::Reach;
 use rt_response::ThreadRow;
 
-/// How far a row is, from its values in a round.
+/// Returns how far a row is, from its values in a round.
 fn reach_of(row: &ThreadRow, round: u64, jitter: u64, response: u128) -> Reach
     requires response { response ≤ 1000000000000000000000 }
     ensures { result ≡ reach_by row.now round jitter response }
@@ -33,7 +33,7 @@ fn reach_of(row: &ThreadRow, round: u64, jitter: u64, response: u128) -> Reach
     }
 }
 
-/// A row in round 0.
+/// Returns a row in round 0.
 pub fn first_of(row: &ThreadRow) -> Known
     ensures { result ≡ first_known row.now }
 {
@@ -48,7 +48,7 @@ pub fn first_of(row: &ThreadRow) -> Known
     }
 }
 
-/// What a row of greater priority takes of a window.
+/// Returns what a row of greater priority takes of a window.
 fn taken_of(row: &ThreadRow, known: &Known, window: u64) -> u128
     requires entry { IsTaken row.now known.now }
     requires window { window ≤ 10000000000 }
@@ -59,7 +59,7 @@ fn taken_of(row: &ThreadRow, known: &Known, window: u64) -> u128
     u128::from(reach.div_ceil(u64::from(row.period))) * u128::from(row.cost)
 }
 
-/// What all rows of greater priority take of a window.
+/// Returns what all rows of greater priority take of a window.
 fn all_taken(rows: &[ThreadRow], known: &[Known], window: u64) -> u128
     requires entries { AllZip IsTaken rows.now known.now }
     requires count { length rows.now ≤ 30 }
@@ -80,7 +80,7 @@ fn all_taken(rows: &[ThreadRow], known: &[Known], window: u64) -> u128
     sum
 }
 
-/// The next jitter of a row.
+/// Returns the next jitter of a row: what its starter gives it while that is live, or else the old one.
 fn next_jitter(row: &ThreadRow, known: &[Known], old: u64) -> u64
     requires small { AreSmall known.now }
     ensures { result ≡ jitter_by known.now row.now old row.now.starter }
@@ -97,7 +97,7 @@ fn next_jitter(row: &ThreadRow, known: &[Known], old: u64) -> u64
     }
 }
 
-/// The next response time of the row at a place, in a window.
+/// Returns the next response time of the row at a place, in a window.
 fn response_of(table: &[ThreadRow], known: &[Known], index: usize, window: u64) -> u128
     requires table { IsTable table.now }
     requires small { AreSmall known.now }
@@ -113,7 +113,7 @@ fn response_of(table: &[ThreadRow], known: &[Known], index: usize, window: u64) 
     u128::from(row.block) + u128::from(row.cost) + all_taken(rows_before, known_before, window)
 }
 
-/// How far the row at a place is in this round.
+/// Returns how far the row at a place is in this round.
 fn next_reach(table: &[ThreadRow], known: &[Known], index: usize, round: u64, jitter: u64) -> Reach
     requires table { IsTable table.now }
     requires small { AreSmall known.now }
@@ -131,7 +131,7 @@ fn next_reach(table: &[ThreadRow], known: &[Known], index: usize, round: u64, ji
     }
 }
 
-/// The row at a place in this round, from all rows in the round before.
+/// Returns the row at a place in this round, from all rows in the round before.
 pub fn next_of(table: &[ThreadRow], known: &[Known], index: usize, round: u64) -> Known
     requires table { IsTable table.now }
     requires small { AreSmall known.now }

@@ -12,7 +12,7 @@ use rt_response::ThreadRow;
 /// The most rows that a table has.
 const MOST_ROWS: usize = 30;
 
-/// All rows in round 0.
+/// Writes all rows in round 0.
 fn first_round(table: &[ThreadRow], known: &mut [Known])
     requires long { length known.old ≡ length table.now }
     ensures { (i : ℕ) → slice_get known.new i ≡ first_in (slice_get table.now i) }
@@ -22,7 +22,7 @@ fn first_round(table: &[ThreadRow], known: &mut [Known])
     }
 }
 
-/// All rows in this round, from those in the round before.
+/// Computes all rows in this round, from those in the round before.
 fn next_round(table: &[ThreadRow], known: &[Known], next: &mut [Known], round: u64)
     requires table { IsTable table.now }
     requires small { AreSmall known.now }
@@ -35,7 +35,7 @@ fn next_round(table: &[ThreadRow], known: &[Known], next: &mut [Known], round: u
     }
 }
 
-/// What a row counts for in the sum of all values.
+/// Returns what a row counts for in the sum of all values.
 fn worth(known: &Known) -> u64
     requires known { IsSmall known.now }
     ensures value { result ≡ worth_by known.now }
@@ -47,7 +47,7 @@ fn worth(known: &Known) -> u64
     }
 }
 
-/// The sum of all values.
+/// Returns the sum of all values.
 fn total(known: &[Known]) -> u64
     requires small { AreSmall known.now }
     requires count { length known.now ≤ 30 }
@@ -82,8 +82,9 @@ fn settle(table: &[ThreadRow], known: &mut [Known], next: &mut [Known])
     }
 }
 
-/// What is told of each row of a table, without limits, as far as ten times each row's limits: the least release jitter and the least
-/// response time where there are some, in ticks. What `found` held at first is not read. It takes no memory.
+/// Tells of each row of a table its least release jitter and response time without limits, in ticks, as far as ten times the row's limits;
+/// or that it is given up, with the values of the first round that is over them; or that it needs a starter that has no solution here. What
+/// `found` held at first is not read. It takes no memory.
 ///
 /// It ends for every table: each round but the last raises some value by at least a tick or gives up a row, so no more rounds than
 /// 600,000,000,030 come.

@@ -8,6 +8,7 @@ mod AllowedExamples
 mod LawExamples
 mod LineExamples
 mod ResponseExamples
+mod LateExamples
 mod ViewExamples
 mod RunExamples
 mod OrderExamples

@@ -1,0 +1,7 @@
+pub mod Places
+pub mod Progressing
+pub mod Standing
+pub mod Resting
+pub mod LateLaws
+pub mod Digits
+pub mod ToldLaws

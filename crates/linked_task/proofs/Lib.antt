@@ -43,3 +43,4 @@ pub mod Places
 pub mod Zeros
 pub mod Alongs
 mod AloneExamples
+mod RoomExamples

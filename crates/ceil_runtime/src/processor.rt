@@ -17,11 +17,11 @@ use crate::threads::threads_in;
 use ada_tree::{AdaProgram, Unit};
 use arrivals_tree::{Arrival, Arrivals};
 use link_queue::Links;
-use linked_task::{Deed, Entry, Piece, Task};
+use linked_task::{Deed, Entry, Piece, Task, rooms_of, task_room};
 use linker::{LinkedUnits, link_units};
 use seq_tree::{Costs, NoMemory};
 use std::alloc::Global;
-use task_runtime::{Act, Readiness, Section, Thread, Timing, ceiling_of, room_of};
+use task_runtime::{Act, Readiness, Section, Thread, Timing, ceiling_of};
 use trace_tree::Event;
 
 /// What an advance of the machine came to.
@@ -316,11 +316,13 @@ impl<'a> Machine<'a> {
         };
         let objects = objects_in(alloc, units)?;
         let code = link_units(alloc, units)?;
+        let rooms = rooms_of(alloc, &code)?;
         let mut tasks = Vec::with_capacity(alloc, threads.len())?;
         let mut task: u32 = 0;
         'threads: for thread in threads {
-            let room = room_of(*thread).ok_or(NoMemory)?;
-            let fresh = Task::new(alloc, &code, *thread, code.tasks[task as usize], room)?;
+            let start = code.tasks[task as usize];
+            let room = task_room(&code, rooms.as_slice(), *thread, start);
+            let fresh = Task::new(alloc, &code, *thread, start, room)?;
             tasks.push_reserved(fresh);
             sleep_first(&mut links, task, thread.timing);
             task += 1;

@@ -42,12 +42,12 @@ use Rattle.linked_task.proofs.Shared.AtWork.{effort-few, piece-ready}
 pub call_goes : (c : LinkedUnits) (p p' : Progress) (place : ℕ) (values : List ℕ) → HasCalled c p place [] values p' → HasNoOwner (owner_at c place)
     → Goes c p deeds.Silent p'
 call_goes c p p' place values h none =
-    record { at_work = h.at_work; thread = h.thread; does = called_outside c p p' place values h none }
+    record { at_work = h.at_work; thread = h.thread; room = h.room; does = called_outside c p p' place values h none }
 
 pub return_goes : (c : LinkedUnits) (p p' : Progress) (values : List ℕ) → IsAtWork c p → p.piece ≡ Some (is.Here ins.Return)
     → HasReturned c p values p' → Goes c p deeds.Silent p'
 return_goes c p p' values h e r =
-    record { at_work = r.at_work; thread = r.thread; does = returned_outside c p p' values r (return_bare c p h e) }
+    record { at_work = r.at_work; thread = r.thread; room = r.room; does = returned_outside c p p' values r (return_bare c p h e) }
 
 -- a piece that is nothing to others has been done, and the next one starts
 module _ (code : LinkedUnits) (costs : Costs) (m : Task) (h : IsAtWork code m.progress) (breaks : costs_break costs ≡ false) (q : Progress)
@@ -96,7 +96,7 @@ module _ (m : Task) where
   abbrev IsSame : Progress → Type 0
   IsSame q = (asleep : (is_ready m.readiness || is_idle (pieces_left q)) ≡ true) (rests : rests_as m.readiness q.stack.thread.timing ≡ true)
       (handed : m.durations.items ≡ durations_of q.stack.thread) (long : has_nothing m.durations.items ≡ false)
-      (room : reserve q.stack.thread ≤ vec_capacity m.inside)
+      (room : q.stack.frames.room ≤ vec_capacity m.inside)
       → ◌≡◌ {A = Task} (record m { progress = q; asleep = asleep; rests = rests; handed = handed; long = long; room = room }) m
 
   same_facts : IsSame m.progress
@@ -114,7 +114,7 @@ module _ (m : Task) where
       (Coded-set (coded_list coded_ℕ) m.durations.items (durations_of m.progress.stack.thread) handed m.handed)
       ∙ ap (λ (x : has_nothing m.durations.items ≡ false). record m { long = x; room = room })
       (Bool-set (has_nothing m.durations.items) false long m.long)
-      ∙ ap (λ (x : reserve m.progress.stack.thread ≤ vec_capacity m.inside). record m { room = x }) (le_prop room m.room)
+      ∙ ap (λ (x : m.progress.stack.frames.room ≤ vec_capacity m.inside). record m { room = x }) (le_prop room m.room)
 
   pub same_progress : (q : Progress) → q ≡ m.progress → IsSame q
   same_progress q same = subst IsSame (sym same) same_facts

@@ -1,7 +1,6 @@
 -- A task that has begun a call, and one whose call has ended, by what its methods did to its slots and frames.
 use Rattle.std.proofs.Common.{◌≡◌, ℕ, ◌+◌, true, false, List, [], ◌∷◌, ◌++◌, Some, length, ap, sym, subst, ◌∙◌, append_assoc}
-use Rattle.std.specs.Prelude.{drop, slice_get, take, Vec, vec_capacity}
-use Rattle.std.specs.declared.alloc.Global.{Global}
+use Rattle.std.specs.Prelude.{drop, slice_get, take}
 use Rattle.seq_tree.specs.Values.{handed}
 use Rattle.seq_tree.specs.Variables.{Variables, entered, written}
 use Rattle.machine.specs.Pieces.{pieces}
@@ -15,6 +14,7 @@ use Rattle.linker.specs.declared.code.Ins.TheVariants as ins
 use Rattle.linker.specs.declared.program.LinkedUnits.{LinkedUnits}
 use Rattle.task_runtime.specs.Written.{data_names}
 use Rattle.linked_task.specs.Bodies.{Body, ended, left_at, size_of, vars_here}
+use Rattle.linked_task.specs.Framed.{Framed}
 use Rattle.linked_task.specs.Goings.{GoesOnAt, HasCalled}
 use Rattle.linked_task.specs.Handing.{values_of}
 use Rattle.linked_task.specs.Lefts.{pieces_by, pieces_left, running_of, vars_by, vars_left}
@@ -61,9 +61,9 @@ module _ (c : LinkedUnits) (p : Progress) (h : IsAtWork c p) (place first outs :
   same_vars = ap (λ k. vars_at k here) the_call.shown
 
   module _ (f : Frame) (same_body : body_of f.body ≡ the_call.body) (same_start : f.start ≡ the_call.start) (same_at : f.at ≡ p.at)
-      (same_size : f.away ≡ size_of r) (slots' : Slotted) (frames' : Vec Frame Global)
+      (same_size : f.away ≡ size_of r) (slots' : Slotted) (frames' : Framed)
       (away : slots'.away ≡ s.slots.away ++ take f.away here) (long : length slots'.here ≡ length (drop f.away here))
-      (items : frames'.items ≡ s.frames.items ++ f ∷ []) (room : vec_capacity frames' ≡ vec_capacity s.frames)
+      (items : frames'.items ≡ s.frames.items ++ f ∷ []) (room : frames'.room ≡ s.frames.room)
       (values : List ℕ) (lent : Variables)
       (hand : values ≡ values_of (values_in the_call.body.op.sig.params the_call.actuals) (vars_here r false p.at here))
       (vars : vars_at (slots_of (op_part the_call.body).names) slots'.here
@@ -92,6 +92,7 @@ module _ (c : LinkedUnits) (p : Progress) (h : IsAtWork c p) (place first outs :
     has_called = record {
       at_work = on.at_work;
       thread = ap (λ k. k.thread) on.stack;
+      room = ap (λ k. k.frames.room) on.stack ∙ room;
       unit = the_call.unit;
       op = the_call.op;
       actuals = the_call.actuals;

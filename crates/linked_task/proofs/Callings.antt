@@ -1,9 +1,8 @@
 -- A call that begins: what its method finds in code, and how much room there is for the body.
-use Rattle.std.proofs.Common.{◌≡◌, ◌<◌, ◌≤◌, ℕ, ◌+◌, ◌-◌, true, false, List, [], ◌∷◌, ◌++◌, Option, Some, None, length, map, refl, ap, sym, subst}
-use Rattle.std.proofs.Common.{◌∙◌, arith, get_or}
-use Rattle.std.specs.Prelude.{drop, slice_get, take, option_map, Vec, vec_capacity}
-use Rattle.std.specs.declared.alloc.Global.{Global}
-use Rattle.std.proofs.lemmas.List.{length-append, length-drop, length-map, length-take}
+use Rattle.std.proofs.Common.{◌≡◌, ◌<◌, ◌≤◌, ℕ, ◌+◌, true, false, List, [], ◌∷◌, ◌++◌, Option, Some, None, length, map, refl, ap, sym, subst}
+use Rattle.std.proofs.Common.{◌∙◌, ◌^◌, arith, get_or}
+use Rattle.std.specs.Prelude.{drop, slice_get, take, option_map}
+use Rattle.std.proofs.lemmas.List.{length-append, length-drop, length-map}
 use Rattle.std.proofs.lemmas.Option.{same_Some, slice_get-map, slice_get_read, slice_get_within}
 use Rattle.seq_tree.specs.Names.{Name}
 use Rattle.seq_tree.specs.Expressions.{Expression}
@@ -12,13 +11,12 @@ use Rattle.seq_tree.specs.declared.tree.Datum.{Datum}
 use Rattle.seq_tree.specs.declared.tree.Param.{Param}
 use Rattle.machine.specs.Pieces.{Piece, Calling}
 use Rattle.machine.specs.Systems.{System, CallTarget, Plain, Protected, ProtectedUnit, Request, Unknown, callee}
+use Rattle.law_flat_code.specs.Codes.{block_size}
 use Rattle.linked.specs.Slots.{vars_at}
 use Rattle.linker.specs.Callees.{OpBody, body_of}
-use Rattle.linker.specs.Leads.{Leads}
 use Rattle.linker.specs.Programs.{datum_names, op_part, param_names}
 use Rattle.linker.specs.Scopes.{slots_of}
-use Rattle.linker.specs.Standing.{Lists, ValuesStand, lists_of, values_in}
-use Rattle.linker.specs.declared.code.Ins.{Ins}
+use Rattle.linker.specs.Standing.{ValuesStand, lists_of, values_in}
 use Rattle.linker.specs.declared.code.Ins.TheVariants as ins
 use Rattle.linker.specs.declared.program.LinkedUnits.{LinkedUnits}
 use Rattle.linker.specs.declared.tables.OpBody as code
@@ -28,49 +26,30 @@ use Rattle.task_runtime.specs.Stacked.{vars_of}
 use Rattle.task_runtime.specs.Written.{reserve, system_of}
 use Rattle.task_runtime.specs.declared.values.Var.{Var}
 use Rattle.task_runtime.proofs.Shared.Doings.{protected-at}
-use Rattle.linked_task.specs.Bodies.{Body, first_body, into, scope_at, size_of, vars_here}
+use Rattle.linked_task.specs.Bodies.{Body, scope_at, size_of, vars_here}
+use Rattle.linked_task.specs.Framed.{Framed}
 use Rattle.linked_task.specs.Goings.{GoesOnAt, HasCalled}
 use Rattle.linked_task.specs.Handing.{ValuesAt, values_of}
 use Rattle.linked_task.specs.Lefts.{pieces_left, running_of}
 use Rattle.linked_task.specs.Settling.{IsAmid}
 use Rattle.linked_task.specs.Slotted.{Slotted}
-use Rattle.linked_task.specs.Sounds.{AreSound, IsAtWork, IsBodyOf, IsFull, IsStacked}
+use Rattle.linked_task.specs.Sounds.{IsAtWork, IsBodyOf, IsFull, IsStacked}
 use Rattle.linked_task.specs.declared.piece.Frame.{Frame}
 use Rattle.linked_task.specs.declared.piece.Piece.TheVariants as is
 use Rattle.linked_task.specs.declared.progress.Progress.{Progress}
 use Rattle.linked_task.specs.declared.stack.Stack.{Stack}
 use Rattle.linked_task.proofs.Arrivals.{sound_running}
 use Rattle.linked_task.proofs.Begun.{called_there, has_called, left_here, the_call}
-use Rattle.linked_task.proofs.Calls.{CallAt, data_is, long_here, room_here}
+use Rattle.linked_task.proofs.Calls.{CallAt, inner, names_count}
 use Rattle.linked_task.proofs.Entries.{call_running, call_stacked, with_call}
 use Rattle.linked_task.proofs.Filling.{names_long}
 use Rattle.linked_task.proofs.Heads.{Head, head_at}
+use Rattle.linked_task.proofs.Reserves.{callee_slots}
 use Rattle.linked_task.proofs.Stacks.{last_by, room_by}
 
--- each call has a slot at least
-frames_few : (y : System) (leads : Name → Name → Leads) (t : Lists) (last : Ins) (room : ℕ) (r : Body) (fs : List Frame) (away : List ℕ)
-    → AreSound y leads t last room r fs away → length fs ≤ length away
-frames_few y leads t last room r [] away h = omega arith
-frames_few y leads t last room r (f ∷ fs) away h =
-    let rest = frames_few y leads t ins.Return (room - f.away) (into r f (take f.away away)) fs (drop f.away away) h.2 in
-    let long = h.1.long in
-    let size = h.1.size in
-    let d = length-drop f.away away in
-    let n = length-take f.away away in
-    omega (arith, rest, long, size, d, n)
-
--- the slots of a task are no more than there is room for frames
-pub here_few : (c : LinkedUnits) (s : Stack) → IsStacked c s → length s.slots.here ≤ vec_capacity s.frames
-here_few c s h = let le = h.frames_room in omega (arith, le)
-
--- there is room for a call more
-pub frame_fits : (c : LinkedUnits) (s : Stack) → IsStacked c s → length s.frames.items < vec_capacity s.frames
-frame_fits c s h =
-    let few = frames_few (system_of s.thread) h.linked.leads (lists_of c.code) ins.Finish (reserve s.thread) (first_body s.thread s.start)
-    s.frames.items s.slots.away h.sound in
-    let le = h.frames_room in
-    let long = long_here c s h in
-    omega (arith, few, le, long)
+-- a task has few slots
+pub here_few : (c : LinkedUnits) (s : Stack) → IsStacked c s → length s.slots.here < 2 ^ 63
+here_few c s h = let lt = h.small in omega (arith, lt)
 
 -- what an object has is what its operations know of it
 pub object_vars : (y : System) (unit op : Name) (k : CallTarget) (b : OpBody) (object place : ℕ) → callee y unit op ≡ k → IsBodyOf k b
@@ -148,15 +127,22 @@ module _ (c : LinkedUnits) (p : Progress) (h : IsAtWork c p) (place first outs :
     pub values_there : ValuesAt (lists_of c.code) first b.op.sig.params
     values_there = record { scope = scope_at r false p.at; actuals = k.actuals; stand = here_stand }
 
+    is' : slice_get c.code.ins.items p.at ≡ Some (ins.Call place first outs)
+    is' = called_there c p h place first outs e
+
+    before_end : p.at < r.start + block_size r.block
+    before_end =
+        let lt = inner c s h.stacked p.at (ins.Call place first outs) h.amid is' tt in
+        let from = h.amid.from in
+        omega (arith, lt, from)
+
     -- the names of the body have their slots behind those of its caller
     pub body_fits : size_of r + (length b.op.sig.params + (length b.op.locals + length b.vars)) ≤ length here
     body_fits =
         let parts = ap (λ q. length q.op.sig.params + (length q.op.locals + length q.vars)) same in
-        let vars = ap length (data_is (callee (system_of s.thread) k.unit k.op) k.body k.is_body) in
-        let more = k.ready.room in
-        let enough = (sound_running c s h.stacked).room' in
-        let le = room_here c s h.stacked in
-        omega (arith, parts, vars, more, enough, le)
+        let count = names_count k.body in
+        let enough = callee_slots c s h.stacked p.at place first outs k.body k.start h.amid.from before_end is' k.there k.starts in
+        omega (arith, parts, count, enough)
 
     -- the values that are handed in
     module _ (ps : List Param) (ps_are : ps ≡ b.op.sig.params) where
@@ -247,9 +233,9 @@ module _ (c : LinkedUnits) (p : Progress) (h : IsAtWork c p) (place first outs :
 
     -- the call is put on the stacks
     module _ (start : ℕ) (starts : slice_get c.starts.items place ≡ Some start) (size : ℕ) (sized : size ≡ size_of r) (slots' : Slotted)
-        (frames' : Vec Frame Global) (away : slots'.away ≡ s.slots.away ++ take size here) (long : length slots'.here ≡ length (drop size here))
+        (frames' : Framed) (away : slots'.away ≡ s.slots.away ++ take size here) (long : length slots'.here ≡ length (drop size here))
         (items : frames'.items ≡ s.frames.items ++ record { body = d; start = start; at = p.at; away = size } ∷ [])
-        (room : vec_capacity frames' ≡ vec_capacity s.frames) where
+        (room : frames'.room ≡ s.frames.room) where
       abbrev f : Frame
       f = record { body = d; start = start; at = p.at; away = size }
 

@@ -1,7 +1,7 @@
 -- A call at a place of the body that runs: the operation that it leads to, what code has of it, and that there is room for it.
 use Rattle.std.proofs.Common.{◌≡◌, ◌⊎◌, inl, inr, ◌<◌, ◌≤◌, ℕ, ◌+◌, ◌-◌, true, false, List, [], ◌∷◌, ◌++◌, Option, Some, None, length, map}
 use Rattle.std.proofs.Common.{refl, ap, sym, subst, ◌∙◌, arith}
-use Rattle.std.specs.Prelude.{slice_get, take, ⊤}
+use Rattle.std.specs.Prelude.{slice_get, take}
 use Rattle.std.proofs.lemmas.List.{length-append, length-map, length-take-le}
 use Rattle.std.proofs.lemmas.Option.{same_Some}
 use Rattle.seq_tree.specs.Names.{Name}
@@ -32,6 +32,7 @@ use Rattle.linked_task.specs.Bodies as bodies
 use Rattle.linked_task.specs.Bodies.{ended, first_body, into, left_at, scope_at, size_of, vars_here}
 use Rattle.linked_task.specs.Doings.{owner_at}
 use Rattle.linked_task.specs.Lefts.{running_of}
+use Rattle.linked_task.specs.Reserving.{IsInner}
 use Rattle.linked_task.specs.Settling.{IsAmid}
 use Rattle.linked_task.specs.Sounds.{IsBodyOf, IsCall, IsSound, IsStacked, IsTidy}
 use Rattle.linked_task.specs.declared.piece.Frame.{Frame}
@@ -40,14 +41,9 @@ use Rattle.linked_task.proofs.Arrivals.{sound_running}
 use Rattle.linked_task.proofs.Belows.{left_below, taken_same, vars_below}
 use Rattle.linked_task.proofs.Heads.{Head, head_at}
 use Rattle.linked_task.proofs.Orders.{order}
-use Rattle.linked_task.proofs.Stacks.{last_by, room_by, room_is}
+use Rattle.linked_task.proofs.Reserves.{own_slots}
+use Rattle.linked_task.proofs.Stacks.{last_by, room_by}
 use Rattle.linked_task.proofs.Steps.{as_there, next_amid, next_left, next_scope, shows_there}
-
--- an instruction that is no last one
-abbrev pub IsInner : Ins → Type 0
-IsInner ins.Return = ⊥
-IsInner ins.Finish = ⊥
-IsInner _ = ⊤
 
 last_outer : (last : Ins) (fs : List Frame) → (IsInner last → ⊥) → IsInner (last_by last fs) → ⊥
 last_outer last [] outer h = outer h
@@ -81,7 +77,7 @@ module _ (t : Lists) (scope : Variables) (place first outs : ℕ) (actuals : Lis
     pub values : ValuesStand t scope first (values_in params actuals)
     pub stores : TargetsStand t scope (first + length (values_in params actuals)) (targets params actuals)
 
-  call_says : (l : Leads) → CallStands t scope l actuals (Some (ins.Call place first outs)) → CallSays l
+  pub call_says : (l : Leads) → CallStands t scope l actuals (Some (ins.Call place first outs)) → CallSays l
   call_says (Body k params) h =
       let e = call_parts place first outs k h.0 (length (targets params actuals)) (same_Some _ _ h.1) in
       record {
@@ -105,7 +101,7 @@ pub record LedTo (bodies' : List OpBody) (k : CallTarget) (place : ℕ) (params 
   pub there : slice_get bodies' place ≡ Some body
   pub params' : params ≡ body.op.sig.params
 
-led_to : (bodies' : List OpBody) (k : CallTarget) (place : ℕ) (params : List Param) → IsLed bodies' k (Body place params)
+pub led_to : (bodies' : List OpBody) (k : CallTarget) (place : ℕ) (params : List Param) → IsLed bodies' k (Body place params)
     → LedTo bodies' k place params
 led_to bodies' (Plain o) place params h =
     let e = body_parts place h.0 params o.sig.params h.1 in
@@ -168,18 +164,9 @@ module _ (c : LinkedUnits) (s : Stack) (h : IsStacked c s) where
   sound : IsSound y h.linked.leads t (last_by ins.Finish s.frames.items) (room_by (reserve s.thread) s.frames.items) r
   sound = sound_running c s h
 
-  -- the slots of the body that runs are enough for it and for all calls that may follow
-  pub room_here : room_by (reserve s.thread) s.frames.items ≤ length here
-  room_here =
-      let e = room_is y h.linked.leads t ins.Finish (reserve s.thread) (first_body s.thread s.start) s.frames.items s.slots.away h.sound in
-      let le = h.slots_room in
-      omega (arith, e, le)
-
+  -- the slots of the body that runs are enough for it
   pub long_here : size_of r ≤ length here
-  long_here =
-      let e = room_here in
-      let le = sound.room' in
-      omega (arith, e, le)
+  long_here = own_slots c s h
 
   -- an instruction that is no last one stands before the end of the body
   pub inner : (at : ℕ) (x : Ins) → IsAmid r.start r.block at → slice_get t.ins at ≡ Some x → IsInner x → at - r.start < block_size r.block

@@ -1,8 +1,7 @@
 -- A task whose innermost call has ended, by what its methods did to its slots and frames.
 use Rattle.std.proofs.Common.{◌≡◌, ◌<◌, ℕ, ◌+◌, ◌-◌, true, false, List, [], ◌∷◌, ◌++◌, Option, Some, None, length, set, refl, ap, sym}
 use Rattle.std.proofs.Common.{◌∙◌, arith}
-use Rattle.std.specs.Prelude.{drop, slice_get, take, Vec, vec_capacity}
-use Rattle.std.specs.declared.alloc.Global.{Global}
+use Rattle.std.specs.Prelude.{drop, slice_get, take}
 use Rattle.seq_tree.specs.Names.{Name}
 use Rattle.seq_tree.specs.Operations.{out_names}
 use Rattle.seq_tree.specs.Variables.{Variables, reads, stored, targets}
@@ -19,6 +18,7 @@ use Rattle.linker.specs.declared.program.LinkedUnits.{LinkedUnits}
 use Rattle.task_runtime.specs.Written.{data_names, reserve, system_of}
 use Rattle.linked_task.specs.Bodies.{Body, counter_of, left_at, scope_at, turn_at, vars_here}
 use Rattle.linked_task.specs.Doings.{EndsBody}
+use Rattle.linked_task.specs.Framed.{Framed}
 use Rattle.linked_task.specs.Goings.{GoesOnAt, HasReturned}
 use Rattle.linked_task.specs.Handing.{target_slots}
 use Rattle.linked_task.specs.Lefts.{pieces_by, running_of, vars_by}
@@ -94,10 +94,10 @@ end_by_vars (Some (is.Requested q)) ns r at slots e = absurd e
 end_by_vars None ns r at slots e = absurd e
 
 module _ (c : LinkedUnits) (p : Progress) (h : IsAtWork c p) (e : EndsBody p.piece) (fs : List Frame) (f : Frame)
-    (items : p.stack.frames.items ≡ fs ++ f ∷ []) (slots' : Slotted) (frames' : Vec Frame Global)
+    (items : p.stack.frames.items ≡ fs ++ f ∷ []) (slots' : Slotted) (frames' : Framed)
     (away : slots'.away ≡ take (length p.stack.slots.away - f.away) p.stack.slots.away)
     (here : slots'.here ≡ drop (length p.stack.slots.away - f.away) p.stack.slots.away ++ p.stack.slots.here) (left : frames'.items ≡ fs)
-    (room : vec_capacity frames' ≡ vec_capacity p.stack.frames) where
+    (room : frames'.room ≡ p.stack.frames.room) where
   abbrev s : Stack
   s = p.stack
 
@@ -161,6 +161,7 @@ module _ (c : LinkedUnits) (p : Progress) (h : IsAtWork c p) (e : EndsBody p.pie
     has_returned = record {
       at_work = on.at_work;
       thread = ap (λ k. k.thread) on.stack;
+      room = ap (λ k. k.frames.room) on.stack ∙ room;
       actuals = cc'.actuals;
       caller = vars_here caller true f.at slots'.here;
       rest = left_at caller true (f.at + 1) slots'.here;

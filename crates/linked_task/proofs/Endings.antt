@@ -1,8 +1,7 @@
 -- A body that ends: what its method finds on the stacks and in code.
 use Rattle.std.proofs.Common.{◌≡◌, ◌<◌, ◌≤◌, ℕ, ◌+◌, ◌-◌, Bool, true, false, not, ◌&&◌, ◌||◌, List, [], ◌∷◌, ◌++◌, Some, None, length}
 use Rattle.std.proofs.Common.{refl, ap, sym, subst, ◌∙◌, append_assoc, arith, get_or}
-use Rattle.std.specs.Prelude.{drop, slice_get, take, Vec, vec_capacity}
-use Rattle.std.specs.declared.alloc.Global.{Global}
+use Rattle.std.specs.Prelude.{drop, slice_get, take}
 use Rattle.std.proofs.lemmas.List.{length-append, length-map}
 use Rattle.std.proofs.lemmas.List.Folds.{list_any-append}
 use Rattle.std.proofs.lemmas.Option.{same_Some, slice_get_read, slice_get_within}
@@ -28,6 +27,7 @@ use Rattle.task_runtime.specs.Fitting.{names_of}
 use Rattle.task_runtime.specs.Written.{IsReady, data_names, reserve, system_of}
 use Rattle.linked_task.specs.Bodies.{Body, behind_call, ended, ended_by, first_body, into, left_at, running, scope_at, vars_here}
 use Rattle.linked_task.specs.Doings.{EndsBody}
+use Rattle.linked_task.specs.Framed.{Framed}
 use Rattle.linked_task.specs.Goings.{GoesOnAt, HasReturned}
 use Rattle.linked_task.specs.Handing.{TargetsAt, target_slots}
 use Rattle.linked_task.specs.Lefts.{running_of, vars_left}
@@ -231,7 +231,7 @@ module _ (c : LinkedUnits) (p : Progress) (h : IsAtWork c p) (e : EndsBody p.pie
         ∙ sym (end_by_left p.piece (running_of s) p.at s.slots.here e) ∙ d.first)
 
     -- the caller goes on
-    module _ (frames' : Vec Frame Global) (left : frames'.items ≡ fs) (room : vec_capacity frames' ≡ vec_capacity s.frames) (slots' : Slotted)
+    module _ (frames' : Framed) (left : frames'.items ≡ fs) (room : frames'.room ≡ s.frames.room) (slots' : Slotted)
         (away : slots'.away ≡ take (length s.slots.away - f.away) s.slots.away)
         (here : slots'.here ≡ drop (length s.slots.away - f.away) s.slots.away ++ s.slots.here) where
       abbrev pub back : Stack

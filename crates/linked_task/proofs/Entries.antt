@@ -1,10 +1,9 @@
 -- The stacks of a task with one call more, and what its body has left as it begins.
-use Rattle.std.proofs.Common.{◌≡◌, ℕ, ◌-◌, true, List, [], ◌∷◌, ◌++◌, Some, length, ap, sym, subst, ◌∙◌, arith}
+use Rattle.std.proofs.Common.{◌≡◌, ◌<◌, ℕ, ◌+◌, ◌-◌, true, List, [], ◌∷◌, ◌++◌, Some, length, ap, sym, subst, ◌∙◌, arith}
 use Rattle.std.specs.Prelude.{drop, slice_get, take}
 use Rattle.std.proofs.lemmas.List.{length-append, length-drop, length-take-le}
-use Rattle.std.specs.Prelude.{Vec, vec_capacity}
-use Rattle.std.specs.declared.alloc.Global.{Global}
 use Rattle.machine.specs.Pieces.{pieces}
+use Rattle.law_flat_code.specs.Codes.{block_size}
 use Rattle.law_flat_code.specs.Withins.{scope_within, within}
 use Rattle.law_flat_code.proofs.Shared.Begins.{begins_within, scope_begins}
 use Rattle.linked.specs.Slots.{vars_at}
@@ -15,13 +14,16 @@ use Rattle.linker.specs.declared.code.Ins.TheVariants as ins
 use Rattle.linker.specs.declared.program.LinkedUnits.{LinkedUnits}
 use Rattle.task_runtime.specs.Written.{reserve, system_of}
 use Rattle.linked_task.specs.Bodies.{Body, first_body, left_at, running, size_of, turn_at, vars_here}
+use Rattle.linked_task.specs.Framed.{Framed}
 use Rattle.linked_task.specs.Lefts.{running_of}
+use Rattle.linked_task.specs.Reserving.{HaveRoom, extent_in}
 use Rattle.linked_task.specs.Settling.{IsAmid}
 use Rattle.linked_task.specs.Slotted.{Slotted}
 use Rattle.linked_task.specs.Sounds.{AreSound, IsStacked, slots_count}
 use Rattle.linked_task.specs.declared.piece.Frame.{Frame}
 use Rattle.linked_task.specs.declared.stack.Stack.{Stack}
-use Rattle.linked_task.proofs.Calls.{CallAt, began, into_is, into_sound, is_call, long_here}
+use Rattle.linked_task.proofs.Calls.{CallAt, began, inner, into_is, into_sound, is_call, long_here}
+use Rattle.linked_task.proofs.Reserves.{room_inside}
 use Rattle.linked_task.proofs.Stacks.{running_pushed, sound_pushed}
 
 -- a body as it begins: its block is left, and its names are its variables
@@ -59,22 +61,30 @@ module _ (c : LinkedUnits) (s : Stack) (h : IsStacked c s) (slots' : Slotted) (a
     works = h.works;
     sound = subst (AreSound (system_of s.thread) h.linked.leads (lists_of c.code) ins.Finish (reserve s.thread) (first_body s.thread s.start)
         s.frames.items) (sym away) h.sound;
-    slots_room = (let e = same_count in let le = h.slots_room in omega (arith, e, le));
-    frames_room = (let e = same_count in let le = h.frames_room in omega (arith, e, le));
+    bodies = h.bodies;
+    room = subst (λ n. HaveRoom c h.bodies n (extent_in (first_body s.thread s.start)) s.frames.items) same_count h.room;
+    frames_room = h.frames_room;
+    small = (let e = same_count in let lt = h.small in omega (arith, e, lt));
   }
 
 -- stacks with one call more
 module _ (c : LinkedUnits) (s : Stack) (h : IsStacked c s) (at place first outs : ℕ) (amid : IsAmid (running_of s).start (running_of s).block at)
     (is : slice_get (lists_of c.code).ins at ≡ Some (ins.Call place first outs)) (f : Frame) (k : CallAt c s h at place first outs)
     (same_body : body_of f.body ≡ k.body) (same_start : f.start ≡ k.start) (same_at : f.at ≡ at) (same_size : f.away ≡ size_of (running_of s))
-    (slots' : Slotted) (frames' : Vec Frame Global) (away : slots'.away ≡ s.slots.away ++ take f.away s.slots.here)
+    (slots' : Slotted) (frames' : Framed) (away : slots'.away ≡ s.slots.away ++ take f.away s.slots.here)
     (long : length slots'.here ≡ length (drop f.away s.slots.here)) (items : frames'.items ≡ s.frames.items ++ f ∷ [])
-    (room : vec_capacity frames' ≡ vec_capacity s.frames) where
+    (room : frames'.room ≡ s.frames.room) where
   abbrev pub with_call : Stack
   with_call = record s { slots = slots'; frames = frames' }
 
   abbrev r : Body
   r = running_of s
+
+  before_end : at < r.start + block_size r.block
+  before_end =
+      let lt = inner c s h at (ins.Call place first outs) amid is tt in
+      let from = amid.from in
+      omega (arith, lt, from)
 
   call_count : slots_count s ≡ slots_count with_call
   call_count =
@@ -110,6 +120,10 @@ module _ (c : LinkedUnits) (s : Stack) (h : IsStacked c s) (at place first outs 
         (first_body s.thread s.start) fs slots'.away) (sym items)
         (subst (AreSound (system_of s.thread) h.linked.leads (lists_of c.code) ins.Finish (reserve s.thread) (first_body s.thread s.start)
         (s.frames.items ++ f ∷ [])) (sym away) call_sound);
-    slots_room = (let e = call_count in let le = h.slots_room in omega (arith, e, le));
-    frames_room = (let e = call_count in let le = h.frames_room in omega (arith, e, le, room));
+    bodies = h.bodies;
+    room = subst (HaveRoom c h.bodies (slots_count with_call) (extent_in (first_body s.thread s.start))) (sym items)
+        (subst (λ n. HaveRoom c h.bodies n (extent_in (first_body s.thread s.start)) (s.frames.items ++ f ∷ [])) call_count
+        (room_inside c s h at place first outs k.body k.start amid.from before_end is k.there k.starts f same_body same_start same_size));
+    frames_room = (let le = h.frames_room in omega (arith, le, room));
+    small = (let e = call_count in let lt = h.small in omega (arith, e, lt));
   }

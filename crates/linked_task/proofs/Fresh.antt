@@ -1,71 +1,55 @@
 -- A task before its first activation, and one whose activation begins.
-use Rattle.std.proofs.Common.{◌≡◌, inl, ◌≤◌, ℕ, ◌+◌, true, [], ◌∷◌, ◌++◌, Option, None, length, map, refl, ap, sym, subst, ◌∙◌, arith}
-use Rattle.std.specs.Prelude.{vec_capacity}
-use Rattle.std.proofs.lemmas.List.{length-append, length-map}
-use Rattle.std.proofs.lemmas.Option.{same_Some}
-use Rattle.seq_tree.specs.declared.tree.Datum.{Datum}
+use Rattle.std.proofs.Common.{◌≡◌, ◌<◌, ◌≤◌, ◌^◌, ℕ, true, [], ◌∷◌, ◌++◌, Option, None, length, map, ap, sym, subst, ◌∙◌, arith}
 use Rattle.ada_tree.specs.Trees.{unit_of}
 use Rattle.machine.specs.Pieces as pieces
 use Rattle.machine.specs.Releases.{parameter}
-use Rattle.machine.specs.Systems.{System, request_params}
-use Rattle.law_flat_code.specs.Codes.{TaskStands}
+use Rattle.machine.specs.Systems.{System}
 use Rattle.linked.specs.Slots.{vars_at}
-use Rattle.linker.specs.Programs.{AreLinked, datum_names, param_names, task_part}
+use Rattle.linker.specs.Programs.{AreLinked, task_part}
 use Rattle.linker.specs.Scopes.{slots_of}
-use Rattle.linker.specs.Standing.{Has, lists_of}
+use Rattle.linker.specs.Standing.{lists_of}
 use Rattle.linker.specs.declared.code.Ins.TheVariants as ins
 use Rattle.linker.specs.declared.program.LinkedUnits.{LinkedUnits}
-use Rattle.linker.proofs.Shared.Starts.{task_stands}
-use Rattle.task_runtime.specs.Written as written
 use Rattle.task_runtime.specs.Written.{block_of_thread, data_names, reserve, system_of, thread_of, timing_of}
 use Rattle.task_runtime.specs.declared.thread.Thread.{Thread}
 use Rattle.linked_task.specs.Bodies.{Body, first_body, left_at, running, vars_here}
 use Rattle.linked_task.specs.Goings.{GoesOnAt}
 use Rattle.linked_task.specs.Lefts.{pieces_left, running_of, vars_by, vars_left}
+use Rattle.linked_task.specs.Reserving.{HasRoom, HaveRoom, extent_in}
 use Rattle.linked_task.specs.Settling.{IsAmid}
-use Rattle.linked_task.specs.Sounds.{AreSound, CanWork, IsAtWork, IsPieceAt, IsSound, IsStacked, IsTaskStart}
+use Rattle.linked_task.specs.Sounds.{AreSound, CanWork, IsAtWork, IsPieceAt, IsSound, IsStacked, IsTaskStart, slots_count}
 use Rattle.linked_task.specs.declared.progress.Progress.{Progress}
+use Rattle.linked_task.specs.declared.reserve.Room.{Room}
 use Rattle.linked_task.specs.declared.stack.Stack.{Stack}
-use Rattle.linked_task.proofs.Calls.{system_is}
+use Rattle.linked_task.proofs.Bounds.{block_sound}
 use Rattle.linked_task.proofs.Entries.{begins_amid, begins_left, begins_vars, slots_stacked}
-
--- how many names a task's block knows
-names_count : (th : Thread) → length (task_part (thread_of th)).names ≡ length (written.param_names th) + length th.«data».now
-names_count th =
-    length-append (param_names (request_params (timing_of th.timing))) (datum_names th.«data».now)
-    ∙ ap (λ k. length (written.param_names th) + k) (length-map th.«data».now (λ (d : Datum). d.name))
+use Rattle.linked_task.proofs.Reserves.{own_slots}
 
 module _ (c : LinkedUnits) (s : Stack) (works : CanWork s.thread) (linked : AreLinked (map unit_of s.thread.units.now) c)
     (start : IsTaskStart c s.thread s.start) where
   abbrev y : System
   y = system_of s.thread
 
-  stands : TaskStands (Has linked.leads (lists_of c.code)) (slots_of (task_part (thread_of s.thread)).names) s.start (block_of_thread s.thread)
-  stands =
-      let t = task_stands (map unit_of s.thread.units.now) c linked y (system_is s.thread) start.place (thread_of s.thread) start.task in
-      subst (λ k. TaskStands (Has linked.leads (lists_of c.code)) (slots_of (task_part (thread_of s.thread)).names) k (block_of_thread s.thread))
-      (same_Some t.0 s.start (sym t.1 ∙ start.starts)) t.2
-
   first_sound : IsSound y linked.leads (lists_of c.code) ins.Finish (reserve s.thread) (first_body s.thread s.start)
-  first_sound = record {
-    stands = stands.0;
-    ends = stands.1;
-    fits = works.runs.block;
-    full = works.full;
-    ending = inl ([], refl);
-    room' = (let e = names_count s.thread in omega (arith, e));
-  }
+  first_sound = block_sound c s.thread works linked s.start start
 
-  module _ (away : s.slots.away ≡ []) (frames : s.frames.items ≡ []) (room : reserve s.thread ≤ length s.slots.here)
-      (more : length s.slots.here ≤ vec_capacity s.frames) where
+  module _ (away : s.slots.away ≡ []) (frames : s.frames.items ≡ []) (bodies : ℕ)
+      (room : HasRoom c bodies (length s.slots.here) (extent_in (first_body s.thread s.start))) (more : bodies ≤ s.frames.room)
+      (small : length s.slots.here < 2 ^ 63) where
+    count : length s.slots.here ≡ slots_count s
+    count = let e = ap length away in omega (arith, e)
+
     first_stacked : IsStacked c s
     first_stacked = record {
       linked = linked;
       works = works;
       sound = subst (λ fs. AreSound y linked.leads (lists_of c.code) ins.Finish (reserve s.thread) (first_body s.thread s.start) fs s.slots.away)
           (sym frames) (first_sound, away);
-      slots_room = (let e = ap length away in omega (arith, e, room));
-      frames_room = (let e = ap length away in omega (arith, e, more));
+      bodies = bodies;
+      room = subst (HaveRoom c bodies (slots_count s) (extent_in (first_body s.thread s.start))) (sym frames)
+          (subst (λ n. HasRoom c bodies n (extent_in (first_body s.thread s.start))) count room);
+      frames_room = more;
+      small = omega (arith, count, small);
     }
 
     bare : running_of s ≡ first_body s.thread s.start
@@ -98,8 +82,14 @@ module _ (c : LinkedUnits) (p : Progress) (h : IsAtWork c p) (none : p.piece ≡
       (subst (λ fs. AreSound (system_of s.thread) h.stacked.linked.leads (lists_of c.code) ins.Finish (reserve s.thread) (first_body s.thread s.start)
       fs s.slots.away) no_frames h.stacked.sound).1
 
-  pub room_there : reserve s.thread ≤ length s.slots.here
-  room_there = let e = ap length nothing_away in let le = h.stacked.slots_room in omega (arith, e, le)
+  bare_now : running_of s ≡ first_body s.thread s.start
+  bare_now = ap (λ fs. running (first_body s.thread s.start) fs s.slots.away) no_frames
+
+  pub room_there : length (task_part (thread_of s.thread)).names ≤ length s.slots.here
+  room_there =
+      let le = own_slots c s h.stacked in
+      let e = ap (λ b. length b.names) bare_now in
+      omega (arith, le, e)
 
   module _ (s' : Stack) (thread : s'.thread ≡ s.thread) (start : s'.start ≡ s.start) (frames : s'.frames ≡ s.frames)
       (away : s'.slots.away ≡ s.slots.away) (long : length s'.slots.here ≡ length s.slots.here) where
@@ -127,12 +117,17 @@ module _ (c : LinkedUnits) (p : Progress) (h : IsAtWork c p) (none : p.piece ≡
         ∙ ap (λ vs. parameter (timing_of s.thread.timing) value ++ vs)
         (sym (ap (λ q. vars_by q (data_names s.thread) (running_of s) p.at s.slots.here) none))
 
-pub new_at_work : (c : LinkedUnits) (th : Thread) (start room : ℕ) (s : Stack) → CanWork th → AreLinked (map unit_of th.units.now) c
-    → IsTaskStart c th start → reserve th ≤ room → s.thread ≡ th → s.start ≡ start → s.slots.away ≡ [] → s.frames.items ≡ []
-    → length s.slots.here ≡ room → room ≤ vec_capacity s.frames → IsAtWork c (record { stack = s; at = start; piece = None })
-new_at_work c th start room s works linked starts enough thread at away frames long more =
+pub new_at_work : (c : LinkedUnits) (th : Thread) (start : ℕ) (room : Room) (s : Stack) → CanWork th → AreLinked (map unit_of th.units.now) c
+    → IsTaskStart c th start → (room.slots < 2 ^ 63 → HasRoom c room.bodies room.slots (extent_in (first_body th start)))
+    → s.thread ≡ th → s.start ≡ start → s.slots.away ≡ [] → s.frames.items ≡ []
+    → length s.slots.here ≡ room.slots → room.bodies ≤ s.frames.room → room.slots < 2 ^ 63
+    → IsAtWork c (record { stack = s; at = start; piece = None })
+new_at_work c th start room s works linked starts enough thread at away frames long more small =
     subst (λ k. IsAtWork c (record { stack = s; at = k; piece = None })) at
     (fresh_at_work c s (subst CanWork (sym thread) works)
     (subst (λ (t : Thread). AreLinked (map unit_of t.units.now) c) (sym thread) linked)
-    (subst (λ t. IsTaskStart c t s.start) (sym thread) (subst (IsTaskStart c th) (sym at) starts)) away frames
-    (let e = ap reserve thread in omega (arith, e, enough, long)) (omega (arith, long, more)))
+    (subst (λ t. IsTaskStart c t s.start) (sym thread) (subst (IsTaskStart c th) (sym at) starts)) away frames room.bodies
+    (subst (λ n. HasRoom c room.bodies n (extent_in (first_body s.thread s.start))) (sym long)
+    (subst (λ k. HasRoom c room.bodies room.slots (extent_in (first_body s.thread k))) (sym at)
+    (subst (λ (t : Thread). HasRoom c room.bodies room.slots (extent_in (first_body t start))) (sym thread) (enough small))))
+    more (omega (arith, long, small)))

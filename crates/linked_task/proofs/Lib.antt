@@ -5,6 +5,8 @@ pub mod Shapes
 pub mod Instructions
 pub mod Jumps
 pub mod Stacks
+pub mod Framing
+pub mod Reserves
 pub mod Steps
 pub mod Arrivals
 pub mod Owns
@@ -14,6 +16,8 @@ pub mod Handed
 pub mod Belows
 pub mod Calls
 pub mod Entries
+pub mod Bounds
+pub mod Tables
 pub mod Returns
 pub mod Begun
 pub mod Ended
@@ -39,3 +43,4 @@ pub mod Places
 pub mod Zeros
 pub mod Alongs
 mod AloneExamples
+mod RoomExamples

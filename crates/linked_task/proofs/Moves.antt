@@ -30,6 +30,7 @@ use Rattle.linked_task.specs.Bodies.{Body, left_at, scope_at, size_of, vars_here
 use Rattle.linked_task.specs.Doings.{Passes}
 use Rattle.linked_task.specs.Goings.{Goes, GoesOnAt}
 use Rattle.linked_task.specs.Lefts.{pieces_by, pieces_left, running_of, vars_by, vars_left}
+use Rattle.linked_task.specs.Reserving.{IsInner}
 use Rattle.linked_task.specs.Settling.{IsAmid}
 use Rattle.linked_task.specs.Slotted.{Slotted}
 use Rattle.linked_task.specs.Sounds.{IsAtWork, IsPieceAt, IsSound, IsStacked}
@@ -38,7 +39,7 @@ use Rattle.linked_task.specs.declared.progress.Progress.{Progress}
 use Rattle.linked_task.specs.declared.stack.Stack.{Stack}
 use Rattle.linked_task.proofs.Arrivals.{sound_running}
 use Rattle.linked_task.proofs.Begun.{here_vars, ins_there, left_here}
-use Rattle.linked_task.proofs.Calls.{IsInner, inner, long_here, system_is}
+use Rattle.linked_task.proofs.Calls.{inner, long_here, system_is}
 use Rattle.linked_task.proofs.Entries.{slots_running, slots_stacked}
 use Rattle.linked_task.proofs.Firsts.{asks, leads_nowhere}
 use Rattle.linked_task.proofs.Owns.{goes_by}
@@ -108,7 +109,7 @@ module _ (c : LinkedUnits) (p : Progress) (h : IsAtWork c p) where
   -- a step that leaves the slots as they are, and one that does not
   same_slots : (x : Ins) → p.piece ≡ Some (is.Here x) → (p' : Progress) (act : deeds.Act) (to : ℕ) → Steps r true p.at here act true to here
       → GoesOnAt c s to p' → Goes c p act p'
-  same_slots x e p' act to step on = goes_by c p p' s true to act (left_here p x e) (here_vars p x e) refl refl step on
+  same_slots x e p' act to step on = goes_by c p p' s true to act (left_here p x e) (here_vars p x e) refl refl refl step on
 
   module _ (slots' : Slotted) (away : slots'.away ≡ s.slots.away) (long' : length slots'.here ≡ length here) where
     abbrev pub after : Stack
@@ -126,7 +127,7 @@ module _ (c : LinkedUnits) (p : Progress) (h : IsAtWork c p) where
     other_slots : (x : Ins) → p.piece ≡ Some (is.Here x) → (p' : Progress) (act : deeds.Act) (to : ℕ) (now : List ℕ) → slots'.here ≡ now
         → Steps r true p.at here act true to now → GoesOnAt c after to p' → Goes c p act p'
     other_slots x e p' act to now put step on =
-        goes_by c p p' after true to act (left_here p x e) (here_vars p x e) refl same_running
+        goes_by c p p' after true to act (left_here p x e) (here_vars p x e) refl refl same_running
         (subst (Steps r true p.at here act true to) (sym put) step) on
 
   -- what an operand reads there
@@ -263,7 +264,7 @@ module _ (c : LinkedUnits) (p : Progress) (h : IsAtWork c p) where
         (p' : Progress) → GoesOnAt c (record s { slots = slots' }) start p' → Goes c p deeds.Silent p'
     turn_goes slots' away put p' on =
         goes_by c p p' (record s { slots = slots' }) false start deeds.Silent (ap (λ q. pieces_by q r p.at here) e)
-        (ap (λ q. vars_by q (data_names s.thread) r p.at here) e) refl
+        (ap (λ q. vars_by q (data_names s.thread) r p.at here) e) refl refl
         (same_running slots' away (ap length put ∙ length-set here (counter + 1) (slot_at here counter)))
         (subst (Steps r false p.at here deeds.Silent true start) (sym put) turn_step) on
 
@@ -293,6 +294,7 @@ module _ (c : LinkedUnits) (p : Progress) (h : IsAtWork c p) where
             piece = (last', next_there);
           };
           thread = refl;
+          room = refl;
           does = record {
             piece = step.piece;
             rest = step.rest;
@@ -336,6 +338,7 @@ module _ (c : LinkedUnits) (p : Progress) (h : IsAtWork c p) where
       let vars = call_vars ins.Nowhere e tt g.0 g.1 g.2 first shown behind in record {
         at_work = on.at_work;
         thread = ap (λ k. k.thread) on.stack;
+        room = ap (λ k. k.frames.room) on.stack;
         does = record {
           piece = Calling g.0 g.1 g.2;
           rest = after';
@@ -444,6 +447,7 @@ module _ (c : LinkedUnits) (p : Progress) (h : IsAtWork c p) where
         let after' = left_at r true (p.at + 1) here in record {
           at_work = record { stacked = h.stacked; amid = amid_behind x e tt; piece = request-at y (op_name k.0 k.1) task is' };
           thread = refl;
+          room = refl;
           does = record {
             piece = Calling k.0 k.1 k.2;
             rest = after';

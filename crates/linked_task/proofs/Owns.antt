@@ -14,11 +14,12 @@ use Rattle.linked_task.proofs.Steps.{Steps}
 pub goes_by : (c : LinkedUnits) (p p' : Progress) (s' : Stack) (open' : Bool) (at : ℕ) (act : deeds.Act)
     → pieces_left p ≡ left_at (running_of p.stack) open' p.at p.stack.slots.here
     → vars_left p ≡ vars_here (running_of p.stack) open' p.at p.stack.slots.here
-    → s'.thread ≡ p.stack.thread → running_of s' ≡ running_of p.stack
+    → s'.thread ≡ p.stack.thread → s'.frames.room ≡ p.stack.frames.room → running_of s' ≡ running_of p.stack
     → Steps (running_of p.stack) open' p.at p.stack.slots.here act true at s'.slots.here → GoesOnAt c s' at p' → Goes c p act p'
-goes_by c p p' s' open' at act left vars thread same step on = record {
+goes_by c p p' s' open' at act left vars thread room same step on = record {
   at_work = on.at_work;
   thread = ap (λ s. s.thread) on.stack ∙ thread;
+  room = ap (λ s. s.frames.room) on.stack ∙ room;
   does = record {
     piece = step.piece;
     rest = step.rest;

@@ -4,8 +4,6 @@ use Rattle.std.specs.Prelude.{drop, slice_get, take}
 use Rattle.std.proofs.lemmas.List.{length-append}
 use Rattle.std.proofs.lemmas.Option.{same_Some}
 use Rattle.std.proofs.Math.Seq.{drop-append_seam, take-append_seam}
-use Rattle.std.specs.Prelude.{Vec, vec_capacity}
-use Rattle.std.specs.declared.alloc.Global.{Global}
 use Rattle.seq_tree.specs.Names.{Name}
 use Rattle.seq_tree.specs.Expressions.{Expression}
 use Rattle.machine.specs.Pieces.{Piece, Calling}
@@ -22,6 +20,8 @@ use Rattle.linker.specs.declared.code.Ins.TheVariants as ins
 use Rattle.linker.specs.declared.program.LinkedUnits.{LinkedUnits}
 use Rattle.task_runtime.specs.Written.{reserve, system_of}
 use Rattle.linked_task.specs.Bodies.{Body, behind_call, ended, first_body, into, left_at, running, size_of, turn_at, vars_here}
+use Rattle.linked_task.specs.Framed.{Framed}
+use Rattle.linked_task.specs.Reserving.{HaveRoom, extent_in}
 use Rattle.linked_task.specs.Lefts.{running_of}
 use Rattle.linked_task.specs.Settling.{IsAmid}
 use Rattle.linked_task.specs.Slotted.{Slotted}
@@ -32,6 +32,7 @@ use Rattle.linked_task.proofs.Arrivals.{sound_running}
 use Rattle.linked_task.proofs.Belows.{joined_same, left_below, vars_below}
 use Rattle.linked_task.proofs.Calls.{CallAt, call_at, long_here}
 use Rattle.linked_task.proofs.Orders.{order}
+use Rattle.linked_task.proofs.Reserves.{room_back}
 use Rattle.linked_task.proofs.Stacks.{Popped, last_by, room_by, running_pushed, sound_popped}
 use Rattle.linked_task.proofs.Steps.{as_there}
 
@@ -116,9 +117,9 @@ module _ (c : LinkedUnits) (s : Stack) (h : IsStacked c s) (fs : List Frame) (f 
       let l = popped.call.long in
       omega (arith, e, g, l)
 
-  module _ (slots' : Slotted) (frames' : Vec Frame Global) (away : slots'.away ≡ take (length s.slots.away - f.away) s.slots.away)
+  module _ (slots' : Slotted) (frames' : Framed) (away : slots'.away ≡ take (length s.slots.away - f.away) s.slots.away)
       (here : slots'.here ≡ drop (length s.slots.away - f.away) s.slots.away ++ s.slots.here) (left : frames'.items ≡ fs)
-      (room : vec_capacity frames' ≡ vec_capacity s.frames) where
+      (room : frames'.room ≡ s.frames.room) where
     abbrev pub without_call : Stack
     without_call = record s { slots = slots'; frames = frames' }
 
@@ -143,8 +144,13 @@ module _ (c : LinkedUnits) (s : Stack) (h : IsStacked c s) (fs : List Frame) (f 
       works = h.works;
       sound = subst (λ gs. AreSound y h.linked.leads t ins.Finish (reserve s.thread) first gs slots'.away) (sym left)
           (subst (AreSound y h.linked.leads t ins.Finish (reserve s.thread) first fs) (sym back_away) popped.sound);
-      slots_room = (let e = back_count in let le = h.slots_room in omega (arith, e, le));
-      frames_room = (let e = back_count in let le = h.frames_room in omega (arith, e, le, room));
+      bodies = h.bodies;
+      room = subst (λ n. HaveRoom c h.bodies n (extent_in first) frames'.items) back_count
+          (subst (HaveRoom c h.bodies (slots_count s) (extent_in first)) (sym left)
+          (room_back c h.bodies (slots_count s) (extent_in first) fs f
+          (subst (HaveRoom c h.bodies (slots_count s) (extent_in first)) items h.room)));
+      frames_room = (let le = h.frames_room in omega (arith, le, room));
+      small = (let e = back_count in let lt = h.small in omega (arith, e, lt));
     }
 
     abbrev pub caller : Body

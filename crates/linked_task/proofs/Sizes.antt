@@ -1,26 +1,20 @@
 -- How many slots the body that runs has, and where a protected object has its operation, by the innermost call.
-use Rattle.std.proofs.Common.{◌≡◌, ◌≤◌, ℕ, Bool, ◌+◌, List, [], ◌∷◌, ◌++◌, None, length, take, drop, refl, ap, sym, ◌∙◌, arith}
+use Rattle.std.proofs.Common.{◌≡◌, ℕ, Bool, ◌+◌, List, [], ◌∷◌, ◌++◌, None, length, take, drop, refl, ap, sym, ◌∙◌, arith}
 use Rattle.std.proofs.lemmas.List.{length-append, length-map}
-use Rattle.std.specs.Prelude.{vec_capacity}
 use Rattle.seq_tree.specs.declared.tree.Datum.{Datum}
 use Rattle.seq_tree.specs.declared.tree.Param.{Param}
 use Rattle.linker.specs.Callees.{body_of}
 use Rattle.linker.specs.Programs.{datum_names, op_part, param_names, task_part}
-use Rattle.linker.specs.declared.program.LinkedUnits.{LinkedUnits}
 use Rattle.task_runtime.specs.Written.{thread_of, timing_of}
 use Rattle.task_runtime.specs.declared.thread.Timing.TheVariants.{Periodic, Requested}
 use Rattle.linked_task.specs.Bodies.{Body, first_body, into, running, size_of}
 use Rattle.linked_task.specs.Lefts.{running_of}
-use Rattle.linked_task.specs.Sounds.{IsStacked, owner_by, owner_of}
+use Rattle.linked_task.specs.Sounds.{owner_by, owner_of}
 use Rattle.linked_task.specs.declared.piece.Frame.{Frame}
 use Rattle.linked_task.specs.declared.stack.Stack.{Stack}
-use Rattle.linked_task.proofs.Calls.{long_here, names_count}
+use Rattle.linked_task.proofs.Calls.{names_count}
 use Rattle.linked_task.proofs.Stacks.{owner_pushed}
 use Rattle.machine.specs.Systems.{request_params}
-
-no_frames : (fs : List Frame) → length fs ≡ 0 → fs ≡ []
-no_frames [] e = refl
-no_frames (f ∷ fs) e = absurd (omega (arith, e))
 
 names_running : (r : Body) (fs : List Frame) (f : Frame) (away : List ℕ) → (running r (fs ++ f ∷ []) away).names ≡ (op_part (body_of f.body)).names
 names_running r [] f away = refl
@@ -39,12 +33,12 @@ module _ (s : Stack) (rest : List Frame) (f : Frame) (is : s.frames.items ≡ re
   owner_called = sym (ap (owner_by None) is ∙ owner_pushed None rest f)
 
 -- in the block of a task
-module _ (s : Stack) (none : length s.frames.items ≡ 0) where
+module _ (s : Stack) (none : s.frames.items ≡ []) where
   size_bare : size_of (running_of s) ≡ length (task_part (thread_of s.thread)).names + 194
-  size_bare = ap (λ fs. size_of (running (first_body s.thread s.start) fs s.slots.away)) (no_frames s.frames.items none)
+  size_bare = ap (λ fs. size_of (running (first_body s.thread s.start) fs s.slots.away)) none
 
   pub owner_bare : None ≡ owner_of s
-  owner_bare = sym (ap (owner_by None) (no_frames s.frames.items none))
+  owner_bare = sym (ap (owner_by None) none)
 
   pub size_periodic : (offset period : ℕ) → s.thread.timing ≡ Periodic offset period → size_of (running_of s) ≡ length s.thread.«data».now + 194
   size_periodic offset period is =
@@ -61,10 +55,3 @@ module _ (s : Stack) (none : length s.frames.items ≡ 0) where
       let b = length-map s.thread.«data».now (λ (d : Datum). d.name) in
       let z = size_bare in
       omega (arith, e, a, b, z)
-
--- a task has no more slots than its frames have room
-pub size_small : (c : LinkedUnits) (s : Stack) → IsStacked c s → size_of (running_of s) ≤ vec_capacity s.frames
-size_small c s h =
-    let a = long_here c s h in
-    let b = h.frames_room in
-    omega (arith, a, b)

@@ -53,14 +53,18 @@ module _ (y : System) (leads : Name → Name → Leads) (t : Lists) where
   sound_here last room r (f ∷ fs) away h = sound_here ins.Return (room - f.away) (into r f (take f.away away)) fs (drop f.away away) h.2
 
   -- callers have as many slots as their calls say
-  pub room_is : (last : Ins) (room : ℕ) (r : Body) (fs : List Frame) (away : List ℕ) → AreSound y leads t last room r fs away
-      → room_by room fs ≡ room - length away
-  room_is last room r [] away h = let e = ap length h.1 in omega (arith, e)
-  room_is last room r (f ∷ fs) away h =
-      let rest = room_is ins.Return (room - f.away) (into r f (take f.away away)) fs (drop f.away away) h.2 in
+  pub room_away : (all : ℕ) (last : Ins) (room : ℕ) (r : Body) (fs : List Frame) (away : List ℕ) → AreSound y leads t last room r fs away
+      → room_by all fs ≡ all - length away
+  room_away all last room r [] away h = let e = ap length h.1 in omega (arith, e)
+  room_away all last room r (f ∷ fs) away h =
+      let rest = room_away (all - f.away) ins.Return (room - f.away) (into r f (take f.away away)) fs (drop f.away away) h.2 in
       let le = long_part f.away away h.1.long in
       let long = length-drop f.away away in
       omega (arith, rest, le, long)
+
+  pub room_is : (last : Ins) (room : ℕ) (r : Body) (fs : List Frame) (away : List ℕ) → AreSound y leads t last room r fs away
+      → room_by room fs ≡ room - length away
+  room_is last room r fs away h = room_away room last room r fs away h
 
   -- a call more
   pub running_pushed : (last : Ins) (room : ℕ) (r : Body) (fs : List Frame) (f : Frame) (away slots : List ℕ)

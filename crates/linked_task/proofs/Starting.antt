@@ -16,7 +16,7 @@ use Rattle.linker.specs.Standing.{Lists, lists_of}
 use Rattle.linker.specs.declared.code.Ins.{Ins}
 use Rattle.linker.specs.declared.code.Ins.TheVariants as ins
 use Rattle.linker.specs.declared.program.LinkedUnits.{LinkedUnits}
-use Rattle.task_runtime.specs.Effort.{IsLong, effort, ends_among, first_ticks, first_works}
+use Rattle.task_runtime.specs.Effort.{IsLong, effort, ends_among, first_ticks, first_works, sections_among}
 use Rattle.task_runtime.specs.Fitting.{spot_of}
 use Rattle.task_runtime.specs.Written.{reserve, system_of}
 use Rattle.task_runtime.proofs.Shared.Starting.{AreTicking}
@@ -30,8 +30,9 @@ use Rattle.linked_task.specs.declared.piece.Piece.TheVariants as is
 use Rattle.linked_task.specs.declared.progress.Progress.{Progress}
 use Rattle.linked_task.specs.declared.stack.Stack.{Stack}
 use Rattle.linked_task.proofs.Arrivals.{sound_running}
-use Rattle.linked_task.proofs.Efforts.{ends_within}
+use Rattle.linked_task.proofs.Efforts.{ends_within, sections_within}
 use Rattle.linked_task.proofs.Firsts.{First, StandsFor, first_at, none_at}
+use Rattle.linked_task.proofs.Reserves.{frame_fits}
 use Rattle.linked_task.proofs.Stacks.{last_by, room_by, room_is}
 
 -- a `work` takes a tick, whatever is handed to it
@@ -251,3 +252,52 @@ few_left c p h = by p.piece refl
 
     by : (q : Option piece.Piece) → p.piece ≡ q → ends_among (pieces_left p) < reserve s.thread
     by q e = let a = few p.piece in let b = room in omega (arith, a, b)
+
+-- the end of a body is one section at most
+one_section : (o : Option (ℕ × ℕ)) (b : OpBody) (actuals : List Expression) (caller : Variables) (ps : List Piece)
+    → sections_among (ended_by o b.vars b.op actuals caller ∷ ps) ≤ suc (sections_among ps)
+one_section None b actuals caller ps = omega arith
+one_section (Some owner) b actuals caller ps = omega arith
+
+module _ (y : System) (leads : Name → Name → Leads) (t : Lists) where
+  -- each call that is under way leaves one section at most
+  sections_running : (last : Ins) (room : ℕ) (r : Body) (fs : List Frame) (away : List ℕ) → AreSound y leads t last room r fs away
+      → sections_among (running r fs away).behind ≤ sections_among r.behind + length fs
+  sections_running last room r [] away h = omega arith
+  sections_running last room r (f ∷ fs) away h =
+      let call = h.1 in
+      let slots = take f.away away in
+      let more = sections_running ins.Return (room - f.away) (into r f slots) fs (drop f.away away) h.2 in
+      let left = sections_within r.block (f.at - r.start) true 0 (turn_at r.names slots) r.behind in
+      let calls = ap sections_among call.calls in
+      let behind = ap (λ ps. sections_among (behind_call (body_of f.body) (vars_here r true f.at slots) ps)) call.calls in
+      let one = one_section (body_of f.body).owner (body_of f.body) call.actuals (vars_here r true f.at slots) call.rest in
+      omega (arith, more, left, calls, behind, one)
+
+-- no more sections are left than calls can be under way
+pub few_sections : (c : LinkedUnits) (p : Progress) → IsAtWork c p → sections_among (pieces_left p) ≤ p.stack.frames.room
+few_sections c p h = few p.piece
+  where
+    s : Stack
+    s = p.stack
+
+    behind : sections_among (running_of s).behind < s.frames.room
+    behind =
+        let e : sections_among (running_of s).behind ≤ 0 + length s.frames.items =
+        sections_running (system_of s.thread) h.stacked.linked.leads (lists_of c.code) ins.Finish (reserve s.thread) (first_body s.thread s.start)
+        s.frames.items s.slots.away h.stacked.sound in
+        let lt = frame_fits c s h.stacked in
+        omega (arith, e, lt)
+
+    left : (open' : Bool) → sections_among (left_at (running_of s) open' p.at s.slots.here) ≡ sections_among (running_of s).behind
+    left open' = sections_within (running_of s).block (p.at - (running_of s).start) open' 0 (turn_at (running_of s).names s.slots.here)
+        (running_of s).behind
+
+    few : (q : Option piece.Piece) → sections_among (pieces_by q (running_of s) p.at s.slots.here) ≤ s.frames.room
+    few None = omega arith
+    few (Some (is.Here i)) = let e = left true in let b = behind in omega (arith, e, b)
+    few (Some (is.Turn counter start)) = let e = left false in let b = behind in omega (arith, e, b)
+    few (Some is.Close) = let e = left true in let b = behind in omega (arith, e, b)
+    few (Some (is.Keep q)) = let e = left true in let b = behind in omega (arith, e, b)
+    few (Some (is.Open q)) = let e = left true in let b = behind in omega (arith, e, b)
+    few (Some (is.Requested q)) = let e = left true in let b = behind in omega (arith, e, b)

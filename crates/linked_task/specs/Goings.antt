@@ -29,12 +29,14 @@ pub record GoesOnAt (c : LinkedUnits) (s : Stack) (at : ℕ) (p : Progress) : Ty
 pub record Goes (c : LinkedUnits) (p : Progress) (act : deeds.Act) (p' : Progress) : Type 0 where
   pub at_work : IsAtWork c p'
   pub thread : p'.stack.thread ≡ p.stack.thread
+  pub room : p'.stack.frames.room ≡ p.stack.frames.room
   pub does : DoesFirst (system_of p.stack.thread) (pieces_left p) (vars_left p) act (vars_left p') (pieces_left p')
 
 -- a task that has begun the body of the operation at a place of code, with these values and what an object lends
 pub record HasCalled (c : LinkedUnits) (p : Progress) (place : ℕ) (lent : Variables) (values : List ℕ) (p' : Progress) : Type 0 where
   pub at_work : IsAtWork c p'
   pub thread : p'.stack.thread ≡ p.stack.thread
+  pub room : p'.stack.frames.room ≡ p.stack.frames.room
   pub unit : Name
   pub op : Name
   pub actuals : List Expression
@@ -51,6 +53,7 @@ pub record HasCalled (c : LinkedUnits) (p : Progress) (place : ℕ) (lent : Vari
 pub record HasReturned (c : LinkedUnits) (p : Progress) (values : List ℕ) (p' : Progress) : Type 0 where
   pub at_work : IsAtWork c p'
   pub thread : p'.stack.thread ≡ p.stack.thread
+  pub room : p'.stack.frames.room ≡ p.stack.frames.room
   pub actuals : List Expression
   pub caller : Variables
   pub rest : List Piece

@@ -1,8 +1,10 @@
 pub mod Slotted
+pub mod Framed
 pub mod Silences
 pub mod Bodies
 pub mod Lefts
 pub mod Settling
+pub mod Reserving
 pub mod Sounds
 pub mod Handing
 pub mod Doings

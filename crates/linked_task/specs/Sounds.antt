@@ -1,7 +1,7 @@
 -- What always holds of a task at work over linked code: its bodies stand there, each call that is under way stands in its caller, and there is
 -- room for the calls that may follow.
 use Rattle.std.specs.Prelude.{◌≡◌, ◌⊎◌, ◌≤◌, ◌<◌, ℕ, ◌+◌, ◌-◌, true, List, [], ◌∷◌, length, map, take, drop, Option, Some, None, slice_get}
-use Rattle.std.specs.Prelude.{vec_capacity, ⊤}
+use Rattle.std.specs.Prelude.{◌^◌, ⊤}
 use Rattle.seq_tree.specs.Names.{Name, are_distinct}
 use Rattle.seq_tree.specs.Expressions.{Expression}
 use Rattle.seq_tree.specs.Statements.{Statement, Statements, Branches, Null, Assign, If, For, ExitWhen, Call, Work, Put, End, Then, Nothing}
@@ -25,6 +25,7 @@ use Rattle.task_runtime.specs.Written.{CanRun, block_of_thread, reserve, system_
 use Rattle.task_runtime.specs.declared.thread.Thread.{Thread}
 use Rattle.linked_task.specs.Bodies.{Body, ended, first_body, into, left_at, size_of}
 use Rattle.linked_task.specs.Lefts.{running_of}
+use Rattle.linked_task.specs.Reserving.{HaveRoom, extent_in}
 use Rattle.linked_task.specs.Settling.{IsAmid, Still}
 use Rattle.linked_task.specs.declared.piece.Frame.{Frame}
 use Rattle.linked_task.specs.declared.piece.Piece as piece
@@ -127,8 +128,11 @@ pub record IsStacked (c : LinkedUnits) (s : Stack) : Type 0 where
   pub works : CanWork s.thread
   pub sound : AreSound (system_of s.thread) linked.leads (lists_of c.code) ins.Finish (reserve s.thread) (first_body s.thread s.start)
       s.frames.items s.slots.away
-  pub slots_room : reserve s.thread ≤ slots_count s
-  pub frames_room : slots_count s ≤ vec_capacity s.frames
+  -- the bodies that may be under way one inside another, and that there is room for them
+  pub bodies : ℕ
+  pub room : HaveRoom c bodies (slots_count s) (extent_in (first_body s.thread s.start)) s.frames.items
+  pub frames_room : bodies ≤ s.frames.room
+  pub small : slots_count s < 2 ^ 63
 
 -- where a protected object has the operation of the innermost call, where there is one
 abbrev pub owner_by : Option (ℕ × ℕ) → List Frame → Option (ℕ × ℕ)

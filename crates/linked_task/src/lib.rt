@@ -16,19 +16,23 @@
 
 mod acting;
 mod durations;
+mod frames;
 mod hands;
 mod inside;
 mod opening;
 mod piece;
 mod progress;
+mod reserve;
 mod settle;
 mod slots;
 mod stack;
 mod task;
 mod timing;
 
+pub use frames::Frames;
 pub use piece::{Deed, Entry, Frame, Piece, Request};
 pub use progress::{Progress, Start};
+pub use reserve::{Room, rooms_of, task_room};
 pub use slots::Slots;
 pub use stack::Stack;
 pub use task::Task;

@@ -1,4 +1,4 @@
-ghost use Rattle.std.specs.Prelude.{◌≡◌, ◌+◌, ◌≤◌, ◌++◌, ◌∷◌, ℕ, [], IfOk, IfSome, IsSome, None, Some, map, min, length, slice_get, vec_capacity};
+ghost use Rattle.std.specs.Prelude.{◌≡◌, ◌+◌, ◌<◌, ◌≤◌, ◌^◌, ◌++◌, ◌∷◌, ℕ, [], IfOk, IfSome, IsSome, None, Some, map, min, length, slice_get, vec_capacity};
 ghost use Rattle.ada_tree.specs.Trees.{unit_of};
 ghost use Rattle.seq_tree.specs.Variables.{written};
 ghost use Rattle.machine.specs.Deeds as deeds;
@@ -14,11 +14,13 @@ ghost use Rattle.linker.specs.declared.program.LinkedUnits.{LinkedUnits as Linke
 ghost use Rattle.task_runtime.specs.Effort.{IsLong, first_ticks, first_works};
 ghost use Rattle.task_runtime.specs.Fitting.{names_of};
 ghost use Rattle.task_runtime.specs.Stacked.{vars_of};
-ghost use Rattle.task_runtime.specs.Written.{block_of_thread, reserve, system_of, timing_of};
+ghost use Rattle.task_runtime.specs.Written.{block_of_thread, system_of, timing_of};
 ghost use Rattle.linked_task.specs.Alongs.{MayGo, goes_alone, has_no_owner, is_alone};
 ghost use Rattle.linked_task.specs.Doings.{DoesFirst, EndsBody, EntersFirst, IsDeed, IsEntry, Passes, StaysOutside, owner_at, piece_of};
 ghost use Rattle.linked_task.specs.Goings.{Goes, GoesOnAt, HasCalled, HasReturned};
 ghost use Rattle.linked_task.specs.Handing.{IsHanded};
+ghost use Rattle.linked_task.specs.Bodies.{first_body};
+ghost use Rattle.linked_task.specs.Reserving.{HasRoom, extent_in};
 ghost use Rattle.linked_task.specs.Settling.{IsAmid};
 ghost use Rattle.linked_task.specs.Silences.{ins_ticks, piece_ticks, piece_works};
 ghost use Rattle.linked_task.specs.declared.piece.Piece.TheVariants as PieceIs;
@@ -26,6 +28,7 @@ ghost use Rattle.linked_task.specs.declared.piece.Piece.TheVariants as PieceIs;
 use crate::hands::{hand_in, hand_out, ins_len, keep_data, store};
 use crate::opening::{lend, open_data, open_params};
 use crate::piece::{Deed, Entry, Frame, Piece, Request};
+use crate::reserve::Room;
 use crate::settle::settled;
 use crate::stack::Stack;
 use linked::Operand;
@@ -123,12 +126,12 @@ impl<'a> Progress<'a> {
         code: &LinkedUnits<'a>,
         thread: Thread<'a>,
         start: u32,
-        room: usize,
+        room: Room,
     ) -> Result<Progress<'a>, NoMemory>
         requires works { CanWork thread }
         requires linked { AreLinked (map unit_of thread.units.now) code.now }
         requires start { IsTaskStart code.now thread start }
-        requires room { reserve thread ≤ room }
+        requires room { room.slots < 2 ^ 63 → HasRoom code.now room.bodies room.slots (extent_in (first_body thread start)) }
         ensures at_work { IfOk result (IsAtWork code.now) }
         ensures thread { IfOk result (λ p. p.stack.thread ≡ thread.entry) }
         ensures vars { IfOk result (λ p. vars_left p ≡ written thread.entry.data.now) }
@@ -181,6 +184,7 @@ impl<'a> Progress<'a> {
         requires rests { self.old.piece ≡ None }
         ensures at_work { IsAtWork code.now self.new }
         ensures thread { self.new.stack.thread ≡ self.old.stack.thread }
+        ensures frames { self.new.stack.frames.room ≡ self.old.stack.frames.room }
         ensures vars { vars_left self.new ≡ parameter (timing_of self.old.stack.thread.timing) value ++ vars_left self.old }
         ensures pieces { pieces_left self.new ≡ pieces (block_of_thread self.old.stack.thread) (Finishing ∷ []) }
     {
@@ -358,7 +362,7 @@ impl<'a> Progress<'a> {
         );
         let away = self.stack.size();
         self.stack.slots.enter(away);
-        self.stack.frames.push_reserved(Frame {
+        self.stack.frames.push(Frame {
             body,
             start,
             at: self.at,
@@ -414,6 +418,7 @@ impl<'a> Progress<'a> {
         requires outside { StaysOutside code.now piece }
         ensures at_work { IsAtWork code.now self.new }
         ensures thread { self.new.stack.thread ≡ self.old.stack.thread }
+        ensures frames { self.new.stack.frames.room ≡ self.old.stack.frames.room }
         ensures does { DoesFirst (system_of self.old.stack.thread) (pieces_left self.old) (vars_left self.old) (act_of result)
             (given result (vars_left self.old) (vars_left self.new)) (pieces_left self.new) }
         ensures keeps { KeepsData result self.old.stack.thread.data.now (vars_left self.old) (vars_left self.new) }
@@ -455,6 +460,7 @@ impl<'a> Progress<'a> {
         requires outside { StaysOutside code.now (PieceIs.Here ins) }
         ensures at_work { IsAtWork code.now self.new }
         ensures thread { self.new.stack.thread ≡ self.old.stack.thread }
+        ensures frames { self.new.stack.frames.room ≡ self.old.stack.frames.room }
         ensures does { DoesFirst (system_of self.old.stack.thread) (pieces_left self.old) (vars_left self.old) (act_of result)
             (given result (vars_left self.old) (vars_left self.new)) (pieces_left self.new) }
         ensures keeps { KeepsData result self.old.stack.thread.data.now (vars_left self.old) (vars_left self.new) }
@@ -621,6 +627,7 @@ impl<'a> Progress<'a> {
             → names_of (vars_of «data».old.items) ≡ datum_names g.vars }
         ensures at_work { IsAtWork code.now self.new }
         ensures thread { self.new.stack.thread ≡ self.old.stack.thread }
+        ensures frames { self.new.stack.frames.room ≡ self.old.stack.frames.room }
         ensures does { EntersFirst (system_of self.old.stack.thread) (pieces_left self.old) (vars_left self.old) entry.object entry.place result
             (vars_of «data».old.items) (vars_left self.new) (pieces_left self.new) }
         ensures lent { «data».new.items ≡ [] }
@@ -643,13 +650,14 @@ impl<'a> Progress<'a> {
             → length g.vars ≤ vec_capacity «data».old }
         ensures at_work { IsAtWork code.now self.new }
         ensures thread { self.new.stack.thread ≡ self.old.stack.thread }
+        ensures frames { self.new.stack.frames.room ≡ self.old.stack.frames.room }
         ensures does { DoesFirst (system_of self.old.stack.thread) (pieces_left self.old) (vars_left self.old)
             (deeds.Leave entry.object entry.place result (vars_of «data».new.items)) (vars_left self.new) (pieces_left self.new) }
         ensures names { (g : ProtectedUnit) → slice_get (system_of self.old.stack.thread).objects entry.object ≡ Some g
             → names_of (vars_of «data».new.items) ≡ datum_names g.vars }
         ensures room { vec_capacity «data».new ≡ vec_capacity «data».old }
     {
-        let Some((frame, _)) = self.stack.frames.as_slice().split_last() else {
+        let Some(frame) = self.stack.frames.last() else {
             unreachable!()
         };
         keep_data(data, frame.body.vars, &self.stack.slots);

@@ -1,4 +1,4 @@
-ghost use Rattle.std.specs.Prelude.{◌≡◌, ◌-◌, ◌<◌, ◌≤◌, ◌++◌, [], drop, length, replicate, set, take, vec_capacity, IfOk};
+ghost use Rattle.std.specs.Prelude.{◌≡◌, ◌-◌, ◌<◌, ◌≤◌, ◌^◌, ◌++◌, [], drop, length, replicate, set, take, vec_capacity, IfOk};
 ghost use Rattle.seq_tree.specs.Variables.{Variables};
 ghost use Rattle.linked.specs.Slots.{slot_at, vars_at};
 ghost use Rattle.linked_task.specs.Slotted.{with_zeros};
@@ -48,6 +48,7 @@ impl Slots {
     pub fn new(alloc: Global, count: usize) -> Result<Slots, NoMemory>
         ensures here { IfOk result (λ s. s.here ≡ replicate count 0) }
         ensures away { IfOk result (λ s. s.away ≡ []) }
+        ensures small { IfOk result (λ s. count < 2 ^ 63) }
     {
         let values = Vec::with_capacity(alloc, count)?;
         Ok(Slots {

@@ -1,4 +1,4 @@
-ghost use Rattle.std.specs.Prelude.{◌≡◌, ◌++◌, ◌≤◌, [], IfOk, length, vec_capacity};
+ghost use Rattle.std.specs.Prelude.{◌≡◌, ◌++◌, ◌<◌, ◌≤◌, ◌^◌, [], IfOk, length};
 ghost use Rattle.seq_tree.specs.Expressions.{Expression};
 ghost use Rattle.seq_tree.specs.Values.{value};
 ghost use Rattle.seq_tree.specs.Variables.{Variables, written};
@@ -9,10 +9,11 @@ ghost use Rattle.linker.specs.Programs.{task_part};
 ghost use Rattle.linker.specs.Scopes.{slots_of};
 ghost use Rattle.linker.specs.Standing.{Reads, lists_of};
 ghost use Rattle.linker.specs.declared.program.LinkedUnits.{LinkedUnits as Linked};
-ghost use Rattle.task_runtime.specs.Written.{data_names, reserve, thread_of, timing_of};
+ghost use Rattle.task_runtime.specs.Written.{data_names, thread_of, timing_of};
 
+use crate::frames::Frames;
 use crate::opening::{open_data, open_params};
-use crate::piece::Frame;
+use crate::reserve::Room;
 use crate::slots::Slots;
 use linked::{Operand, value_at};
 use linker::Code;
@@ -22,14 +23,14 @@ use task_runtime::{Thread, Timing};
 use trace_tree::Values;
 
 /// The stacks of a task: its slots, and the calls that are under way, the innermost last. There is room in both for the deepest chain of calls
-/// that the units of its program allow, since no operation is under way twice.
+/// that its block leads to.
 #[derive(Drop)]
 pub struct Stack<'a> {
     pub thread: Thread<'a>,
     /// Where the block of the task starts in code.
     pub start: u32,
     pub slots: Slots,
-    pub frames: Vec<Frame<'a>>,
+    pub frames: Frames<'a>,
 }
 
 impl<'a> Stack<'a> {
@@ -37,25 +38,26 @@ impl<'a> Stack<'a> {
     ghost use Rattle.linked_task.specs.Lefts.{running_of};
     ghost use Rattle.linked_task.specs.Sounds.{IsStacked, owner_of};
 
-    /// The stacks of a task before its first activation, with so many slots, its data as they are written. The one error is a failed allocation.
+    /// The stacks of a task before its first activation, with so much room, its data as they are written. The one error is a failed allocation.
     pub fn new(
         alloc: Global,
         thread: Thread<'a>,
         start: u32,
-        room: usize,
+        room: Room,
     ) -> Result<Stack<'a>, NoMemory>
-        requires { reserve thread ≤ room }
+        requires { room.slots < 2 ^ 63 → length thread.data.now ≤ room.slots }
         ensures thread { IfOk result (λ s. s.thread ≡ thread.entry) }
         ensures start { IfOk result (λ s. s.start ≡ start) }
         ensures vars { IfOk result (λ s. vars_at (slots_of (data_names thread.entry)) s.slots.here ≡ written thread.entry.data.now) }
-        ensures count { IfOk result (λ s. length s.slots.here ≡ room) }
+        ensures count { IfOk result (λ s. length s.slots.here ≡ room.slots) }
+        ensures small { IfOk result (λ s. room.slots < 2 ^ 63) }
         ensures none { IfOk result (λ s. s.slots.away ≡ []) }
         ensures frames { IfOk result (λ s. s.frames.items ≡ []) }
-        ensures room { IfOk result (λ s. room ≤ vec_capacity s.frames) }
+        ensures room { IfOk result (λ s. room.bodies ≤ s.frames.room) }
     {
-        let mut slots = Slots::new(alloc, room)?;
+        let mut slots = Slots::new(alloc, room.slots)?;
         open_data(&mut slots, thread.data.len(), thread.data);
-        let frames = Vec::with_capacity(alloc, room)?;
+        let frames = Frames::new(alloc, room.bodies)?;
         Ok(Stack {
             thread,
             start,
@@ -69,8 +71,8 @@ impl<'a> Stack<'a> {
         requires { (c : Linked) × IsStacked c self.now }
         ensures { result ≡ size_of (running_of self.now) }
     {
-        match self.frames.as_slice().split_last() {
-            Some((frame, _)) => {
+        match self.frames.last() {
+            Some(frame) => {
                 let op = frame.body.op;
                 op.sig.params.len() + op.locals.len() + frame.body.vars.len() + 194
             }
@@ -85,8 +87,8 @@ impl<'a> Stack<'a> {
     pub fn owner(&self) -> Option<(usize, usize)>
         ensures { result ≡ owner_of self.now }
     {
-        match self.frames.as_slice().split_last() {
-            Some((frame, _)) => frame.body.owner,
+        match self.frames.last() {
+            Some(frame) => frame.body.owner,
             None => None,
         }
     }
@@ -103,7 +105,7 @@ impl<'a> Stack<'a> {
 
     /// Opens an activation, with the value that was requested, where there is one: of a task that runs no body.
     pub fn open(&mut self, value: Option<u32>)
-        requires { reserve self.old.thread ≤ length self.old.slots.here }
+        requires { length ((task_part (thread_of self.old.thread)).names) ≤ length self.old.slots.here }
         ensures vars { vars_at (slots_of ((task_part (thread_of self.old.thread)).names)) self.new.slots.here
             ≡ parameter (timing_of self.old.thread.timing) value ++ vars_at (slots_of (data_names self.old.thread)) self.old.slots.here }
         ensures count { length self.new.slots.here ≡ length self.old.slots.here }

@@ -4,12 +4,13 @@ ghost use Rattle.ada_tree.specs.Trees.{unit_of};
 ghost use Rattle.linker.specs.Programs.{AreLinked};
 ghost use Rattle.task_runtime.specs.Effort.{IsLong};
 ghost use Rattle.task_runtime.specs.Progressed.{is_idle};
-ghost use Rattle.task_runtime.specs.Written.{durations_of, reserve};
+ghost use Rattle.task_runtime.specs.Written.{durations_of};
 ghost use Rattle.linked_task.specs.Lefts.{pieces_left};
 ghost use Rattle.task_runtime.specs.Readies.{is_ready, rests_as};
 
 use crate::durations::joined;
 use crate::progress::Progress;
+use crate::reserve::Room;
 use crate::timing::{opening_rest, opening_time};
 use linker::LinkedUnits;
 use seq_tree::{Costs, NoMemory};
@@ -42,7 +43,7 @@ pub struct Task<'a> {
     ghost rests: { rests_as readiness progress.stack.thread.timing ≡ true },
     ghost handed: { durations.items ≡ durations_of progress.stack.thread },
     ghost long: { has_nothing durations.items ≡ false },
-    ghost room: { reserve progress.stack.thread ≤ vec_capacity inside },
+    ghost room: { progress.stack.frames.room ≤ vec_capacity inside },
 }
 
 impl<'a> Task<'a> {
@@ -50,6 +51,8 @@ impl<'a> Task<'a> {
     ghost use Rattle.machine.specs.Releases.{is_waiting, next_time, released};
     ghost use Rattle.std.specs.Prelude.{◌&&◌, IfOk};
     ghost use Rattle.machine.specs.Effects.{resting};
+    ghost use Rattle.linked_task.specs.Bodies.{first_body};
+    ghost use Rattle.linked_task.specs.Reserving.{HasRoom, extent_in};
     ghost use Rattle.linked_task.specs.Works.{IsFresh};
     ghost use Rattle.task_runtime.specs.Written.{timing_of};
     ghost use Rattle.task_runtime.specs.Works.{asked, used_ticks};
@@ -58,26 +61,26 @@ impl<'a> Task<'a> {
     ghost use Rattle.task_runtime.specs.Readies.{readiness_of};
     ghost use Rattle.ada_tree.specs.Ranges.{costs_break};
 
-    /// A task before its first activation, whose block starts at this place, with room for so many slots: it sleeps until its offset, or waits
-    /// for a request. The one error is a failed allocation.
+    /// A task before its first activation, whose block starts at this place, with so much room: it sleeps until its offset, or waits for a
+    /// request. The one error is a failed allocation.
     pub fn new(
         alloc: Global,
         code: &LinkedUnits<'a>,
         thread: Thread<'a>,
         start: u32,
-        room: usize,
+        room: Room,
     ) -> Result<Task<'a>, NoMemory>
         requires works { CanWork thread }
         requires linked { AreLinked (map unit_of thread.units.now) code.now }
         requires start { IsTaskStart code.now thread start }
-        requires room { reserve thread ≤ room }
+        requires room { room.slots < 2 ^ 63 → HasRoom code.now room.bodies room.slots (extent_in (first_body thread start)) }
         requires long { has_nothing (durations_of thread) ≡ false }
         ensures fresh { IfOk result (λ t. IsFresh t thread.entry) }
         ensures at_work { IfOk result (λ t. IsAtWork code.now t.progress) }
     {
         let progress = Progress::new(alloc, code, thread, start, room)?;
         let durations = joined(alloc, thread.work, thread.unit)?;
-        let inside = Vec::with_capacity(alloc, room)?;
+        let inside = Vec::with_capacity(alloc, progress.stack.frames.room())?;
         Ok(Task {
             progress,
             readiness: opening_rest(thread.timing),

@@ -18,7 +18,7 @@ use Rattle.linker.specs.declared.code.Ins.TheVariants as ins
 use Rattle.linker.specs.declared.program.LinkedUnits.{LinkedUnits}
 use Rattle.task_runtime.specs.Callable.{op_name}
 use Rattle.task_runtime.specs.Doing.{act_of}
-use Rattle.task_runtime.specs.Effort.{effort, ends_among, sections_among}
+use Rattle.task_runtime.specs.Effort.{effort, sections_among}
 use Rattle.task_runtime.specs.Insides.{inside_of, with_held}
 use Rattle.task_runtime.specs.Progressed.{is_idle}
 use Rattle.task_runtime.specs.Readies.{is_ready}
@@ -41,7 +41,7 @@ use Rattle.linked_task.specs.declared.task.Task.{Task}
 use Rattle.linked_task.proofs.Endings.{end_protected}
 use Rattle.linked_task.proofs.Firsts.{StandsFor, first_at, none_at}
 use Rattle.linked_task.proofs.Reaching.{close_ends}
-use Rattle.linked_task.proofs.Starting.{few_left}
+use Rattle.linked_task.proofs.Starting.{few_left, few_sections}
 
 pub piece-none : (c : LinkedUnits) (t : Task) → IsAtWork c t.progress → t.progress.piece ≡ None → (task_of t).pieces ≡ []
 piece-none c t h none = none_at c t.progress h none
@@ -286,25 +286,6 @@ nests-outside t t' t'' costs vars ps does fewer is h =
     by_pieces [] = refl
     by_pieces (x ∷ xs) = refl
 
--- the end of a section is an end
-few_ends : (ps : List pieces.Piece) → sections_among ps ≤ ends_among ps
-few_ends [] = omega arith
-few_ends (pieces.Idle ∷ ps) = few_ends ps
-few_ends (pieces.Store target e ∷ ps) = few_ends ps
-few_ends (pieces.Leaving condition ∷ ps) = few_ends ps
-few_ends (pieces.Calling unit op actuals ∷ ps) = few_ends ps
-few_ends (pieces.Working ticks ∷ ps) = few_ends ps
-few_ends (pieces.Printing e ∷ ps) = few_ends ps
-few_ends (pieces.Testing condition block others ∷ ps) = few_ends ps
-few_ends (pieces.Turning name at last body ∷ ps) = few_ends ps
-few_ends (pieces.Turned name at last body ∷ ps) = let k = few_ends ps in omega (arith, k)
-few_ends (pieces.Returning outs stores caller ∷ ps) = let k = few_ends ps in omega (arith, k)
-few_ends (pieces.Closing object op vars outs stores caller ∷ ps) = let k = few_ends ps in omega (arith, k)
-few_ends (pieces.Keeping task v ∷ ps) = few_ends ps
-few_ends (pieces.Opening task ∷ ps) = few_ends ps
-few_ends (pieces.Requested task v ∷ ps) = let k = few_ends ps in omega (arith, k)
-few_ends (pieces.Finishing ∷ ps) = few_ends ps
-
 -- there is room for a section that a task enters
 length-inside : (rest : List states.Held) (hs : List Held) → length (fold with_held rest hs) ≡ length hs + length rest
 length-inside rest [] = omega arith
@@ -317,7 +298,6 @@ pub has-room : (c : LinkedUnits) (t t' : Task) (costs : Costs) (vars : Variables
 has-room c t t' costs vars ps works does more h =
     let inside = ap (λ v. length v.inside) does ∙ ap length (going-inside costs vars ps (task_of t)) in
     let count : length (inside_of t'.inside.items) ≡ length t'.inside.items + 0 = length-inside [] t'.inside.items in
-    let few = few_left c t'.progress works in
-    let ends = few_ends (pieces_left t'.progress) in
+    let few = few_sections c t'.progress works in
     let room = t'.room in
-    omega (arith, h, inside, more, count, few, ends, room)
+    omega (arith, h, inside, more, count, few, room)

@@ -40,8 +40,8 @@ new-requires-in-threads-clause-works c =
     (slice_get_read c.args.threads.now (length c.args.threads.now) c.threads.thread-index c.thread-item.result refl c.threads-test.true
     c.thread-item.is)).works
 
-pub index-requires : goal.index-requires
-index-requires c =
+pub index-start-requires : goal.index-start-requires
+index-start-requires c =
     let i = c.threads.invariant in
     let at = slice_get_read c.args.threads.now (length c.args.threads.now) c.threads.thread-index c.thread-item.result refl c.threads-test.true
     c.thread-item.is in
@@ -66,9 +66,36 @@ new-requires-in-threads-clause-start c =
     c.threads.thread-index c.thread-item.result at in
     let place = i.place ∙ i.count in
     start-at c.args.units.now c.args.threads.now c.in_ok-code.code c.in_ok-code.ensures c.requires.alike c.requires.start c.threads.thread-index
-    c.thread-item.result at c.index.result.now
-    (ap (slice_get items) (sym place) ∙ slice_get_read items (length items) c.threads.task c.index.result.now refl (omega (arith, known, place))
-    c.index.ensures)
+    c.thread-item.result at c.index-start.result.now
+    (ap (slice_get items) (sym place) ∙ slice_get_read items (length items) c.threads.task c.index-start.result.now refl (omega (arith, known, place))
+    c.index-start.ensures)
+
+pub task_room-room-requires-clause-works : goal.task_room-room-requires-clause-works
+task_room-room-requires-clause-works c =
+    (c.requires.start c.threads.thread-index c.thread-item.result
+    (slice_get_read c.args.threads.now (length c.args.threads.now) c.threads.thread-index c.thread-item.result refl c.threads-test.true
+    c.thread-item.is)).works
+
+pub task_room-room-requires-clause-linked : goal.task_room-room-requires-clause-linked
+task_room-room-requires-clause-linked c =
+    let at = slice_get_read c.args.threads.now (length c.args.threads.now) c.threads.thread-index c.thread-item.result refl c.threads-test.true
+    c.thread-item.is in
+    linked-here c.args.units.now c.args.threads.now c.in_ok-code.code c.in_ok-code.ensures c.requires.alike c.requires.start c.threads.thread-index
+    c.thread-item.result at
+
+pub task_room-room-requires-clause-start : goal.task_room-room-requires-clause-start
+task_room-room-requires-clause-start c =
+    let i = c.threads.invariant in
+    let items = c.in_ok-code.code.tasks.items in
+    let at = slice_get_read c.args.threads.now (length c.args.threads.now) c.threads.thread-index c.thread-item.result refl c.threads-test.true
+    c.thread-item.is in
+    let known = start-known c.args.units.now c.args.threads.now c.in_ok-code.code c.in_ok-code.ensures c.requires.alike c.requires.start
+    c.threads.thread-index c.thread-item.result at in
+    let place = i.place ∙ i.count in
+    start-at c.args.units.now c.args.threads.now c.in_ok-code.code c.in_ok-code.ensures c.requires.alike c.requires.start c.threads.thread-index
+    c.thread-item.result at c.index-start.result.now
+    (ap (slice_get items) (sym place) ∙ slice_get_read items (length items) c.threads.task c.index-start.result.now refl (omega (arith, known, place))
+    c.index-start.ensures)
 
 pub new-requires-in-threads-clause-long : goal.new-requires-in-threads-clause-long
 new-requires-in-threads-clause-long c =

@@ -21,6 +21,9 @@ returns-clause-at_work c = c.go_to.ensures.at_work
 pub returns-clause-thread : goal.returns-clause-thread
 returns-clause-thread c = ap (λ s. s.thread) c.go_to.ensures.stack ∙ c.open.ensures.thread
 
+pub returns-clause-frames : goal.returns-clause-frames
+returns-clause-frames c = ap (λ s. s.frames.room) c.go_to.ensures.stack ∙ ap (λ f. f.room) c.open.ensures.frames
+
 pub returns-clause-vars : goal.returns-clause-vars
 returns-clause-vars c =
     open_vars c.args.code.now c.args.self.now c.requires.at_work c.requires.rests c.open.new.self c.open.ensures.thread c.open.ensures.start

@@ -1,8 +1,9 @@
 use Rattle.std.proofs.Common.{length, refl, ap, ◌∙◌, arith}
-use Rattle.linked_task.proofs.Callings.{calls, few_handed, frame_fits, inside_amid, inside_stacked, lent_fits, locals_fit, op_there}
+use Rattle.linked_task.proofs.Callings.{calls, few_handed, inside_amid, inside_stacked, lent_fits, locals_fit, op_there}
 use Rattle.linked_task.proofs.Callings.{opened_all, params_fit, read_op, read_start, start_there, values_at, values_handed}
 use Rattle.linked_task.proofs.Calls.{long_here}
 use Rattle.linked_task.proofs.Reaching.{owner_there}
+use Rattle.linked_task.proofs.Reserves.{frame_fits}
 use Rattle.linked_task.proofs.progress.Progress.call.Goals as goal
 
 pub index-body-requires : goal.index-body-requires
@@ -44,11 +45,8 @@ enter-requires c =
     let le = long_here c.args.code.now c.args.self.now.stack c.requires.at_work.stacked in
     omega (arith, le, c.size-away.ensures)
 
-pub push_reserved-requires : goal.push_reserved-requires
-push_reserved-requires c =
-    let s = c.args.self.now.stack in
-    let lt = frame_fits c.args.code.now s c.requires.at_work.stacked in
-    omega (arith, lt, s.frames.ok.0)
+pub push-requires : goal.push-requires
+push-requires c = frame_fits c.args.code.now c.args.self.now.stack c.requires.at_work.stacked
 
 pub lend-requires : goal.lend-requires
 lend-requires c =
@@ -107,7 +105,7 @@ go_to-requires-clause-stacked c =
     let away = c.open_params.ensures.away ∙ c.open_data.ensures.away ∙ c.lend.ensures.away ∙ c.enter.ensures.away in
     let long = c.open_params.ensures.len ∙ c.open_data.ensures.len ∙ c.lend.ensures.len ∙ ap length c.enter.ensures.here in
     inside_stacked code p h c.args.op c.args.actuals outs e d there c.index-start.result.now starts c.size-away.result c.size-away.ensures
-    c.open_params.new.slots c.push_reserved.new.self away long c.push_reserved.ensures.items c.push_reserved.ensures.capacity
+    c.open_params.new.slots c.push.new.self away long c.push.ensures.items c.push.ensures.room
 
 pub go_to-requires-clause-amid : goal.go_to-requires-clause-amid
 go_to-requires-clause-amid c =
@@ -122,7 +120,7 @@ go_to-requires-clause-amid c =
     let away = c.open_params.ensures.away ∙ c.open_data.ensures.away ∙ c.lend.ensures.away ∙ c.enter.ensures.away in
     let long = c.open_params.ensures.len ∙ c.open_data.ensures.len ∙ c.lend.ensures.len ∙ ap length c.enter.ensures.here in
     inside_amid code p h c.args.op c.args.actuals outs e d there c.index-start.result.now starts c.size-away.result c.size-away.ensures
-    c.open_params.new.slots c.push_reserved.new.self away long c.push_reserved.ensures.items c.push_reserved.ensures.capacity
+    c.open_params.new.slots c.push.new.self away long c.push.ensures.items c.push.ensures.room
 
 pub returns : goal.returns
 returns c =
@@ -148,5 +146,5 @@ returns c =
     (omega (arith, c.len-2.ensures, ap length c.deref-3.ensures.value, d.op.now.sig.params.ok.0))
     c.as_slice.ensures.values c.lend.ensures.vars c.open_data.ensures.vars c.open_params.ensures.vars in
     calls code p h c.args.op c.args.actuals outs e d there c.index-start.result.now starts c.size-away.result c.size-away.ensures
-    c.open_params.new.slots c.push_reserved.new.self away long c.push_reserved.ensures.items c.push_reserved.ensures.capacity
+    c.open_params.new.slots c.push.new.self away long c.push.ensures.items c.push.ensures.room
     c.hand_in.new.values _ hand vars c.go_to.new.self c.go_to.ensures

@@ -24,7 +24,6 @@ overflow_add-top-2 c =
       arith,
       le,
       few,
-      s.frames.ok,
       c.len.ensures,
       c.len-2.ensures,
       c.in-Some.frame.body.op.now.sig.params.ok.0,
@@ -54,77 +53,77 @@ leave-requires c =
 pub index-requires : goal.index-requires
 index-requires c =
     let lt = call_there c.args.code.now c.args.self.now c.requires.at_work c.requires.piece c.pop.new.self.items c.in-Some.frame
-    c.in-Some.ensures.items c.pop.new.self refl c.in-Some.ensures.capacity c.leave.new.self c.leave.ensures.away c.leave.ensures.here in
+    c.in-Some.ensures.items c.pop.new.self refl c.in-Some.ensures.room c.leave.new.self c.leave.ensures.away c.leave.ensures.here in
     omega (arith, lt, c.args.code.now.code.ins.ok.0)
 
 pub unreachable-requires-in_default-index : goal.unreachable-requires-in_default-index
 unreachable-requires-in_default-index c =
     let there = read_call c.args.code.now c.args.self.now c.requires.at_work c.requires.piece c.pop.new.self.items c.in-Some.frame
-    c.in-Some.ensures.items c.pop.new.self refl c.in-Some.ensures.capacity c.leave.new.self c.leave.ensures.away c.leave.ensures.here
+    c.in-Some.ensures.items c.pop.new.self refl c.in-Some.ensures.room c.leave.new.self c.leave.ensures.away c.leave.ensures.here
     c.index.result.now c.index.ensures in
     c.in_default-index.not-Call _ _ _ (is_there c.args.code.now c.args.self.now c.requires.at_work c.requires.piece c.pop.new.self.items
     c.in-Some.frame
-    c.in-Some.ensures.items c.pop.new.self refl c.in-Some.ensures.capacity c.leave.new.self c.leave.ensures.away c.leave.ensures.here
+    c.in-Some.ensures.items c.pop.new.self refl c.in-Some.ensures.room c.leave.new.self c.leave.ensures.away c.leave.ensures.here
     c.index.result.now there)
 
 pub overflow_add-first : goal.overflow_add-first
 overflow_add-first c =
     let there = read_call c.args.code.now c.args.self.now c.requires.at_work c.requires.piece c.pop.new.self.items c.in-Some.frame
-    c.in-Some.ensures.items c.pop.new.self refl c.in-Some.ensures.capacity c.leave.new.self c.leave.ensures.away c.leave.ensures.here
+    c.in-Some.ensures.items c.pop.new.self refl c.in-Some.ensures.room c.leave.new.self c.leave.ensures.away c.leave.ensures.here
     c.index.result.now c.index.ensures in
     let count : (es : List Expression) → c.ins_len.result ≡ length (values_in c.in-Some.frame.body.op.now.sig.params.items es) =
     λ es. c.ins_len.ensures es ∙ ap (λ ps. length (values_in ps es)) c.deref-2.ensures.value in
     let le = values_fit c.args.code.now c.args.self.now c.requires.at_work c.requires.piece c.pop.new.self.items c.in-Some.frame
-    c.in-Some.ensures.items c.pop.new.self refl c.in-Some.ensures.capacity c.leave.new.self c.leave.ensures.away c.leave.ensures.here
+    c.in-Some.ensures.items c.pop.new.self refl c.in-Some.ensures.room c.leave.new.self c.leave.ensures.away c.leave.ensures.here
     c.in-Call.op c.in-Call.actuals c.in-Call.outs (there ∙ ap Some c.in-Call.is) c.ins_len.result count in
     omega (arith, le, c.type_inv.actuals)
 
 pub store-requires : goal.store-requires
 store-requires c =
     let there = read_call c.args.code.now c.args.self.now c.requires.at_work c.requires.piece c.pop.new.self.items c.in-Some.frame
-    c.in-Some.ensures.items c.pop.new.self refl c.in-Some.ensures.capacity c.leave.new.self c.leave.ensures.away c.leave.ensures.here
+    c.in-Some.ensures.items c.pop.new.self refl c.in-Some.ensures.room c.leave.new.self c.leave.ensures.away c.leave.ensures.here
     c.index.result.now c.index.ensures in
     let count : (es : List Expression) → c.ins_len.result ≡ length (values_in c.in-Some.frame.body.op.now.sig.params.items es) =
     λ es. c.ins_len.ensures es ∙ ap (λ ps. length (values_in ps es)) c.deref-2.ensures.value in
     targets_there c.args.code.now c.args.self.now c.requires.at_work c.requires.piece c.pop.new.self.items c.in-Some.frame
-    c.in-Some.ensures.items c.pop.new.self refl c.in-Some.ensures.capacity c.leave.new.self c.leave.ensures.away c.leave.ensures.here
+    c.in-Some.ensures.items c.pop.new.self refl c.in-Some.ensures.room c.leave.new.self c.leave.ensures.away c.leave.ensures.here
     c.in-Call.op c.in-Call.actuals c.in-Call.outs (there ∙ ap Some c.in-Call.is) c.ins_len.result count
 
 pub overflow_add-frame : goal.overflow_add-frame
 overflow_add-frame c =
     let lt = call_there c.args.code.now c.args.self.now c.requires.at_work c.requires.piece c.pop.new.self.items c.in-Some.frame
-    c.in-Some.ensures.items c.pop.new.self refl c.in-Some.ensures.capacity c.leave.new.self c.leave.ensures.away c.leave.ensures.here in
+    c.in-Some.ensures.items c.pop.new.self refl c.in-Some.ensures.room c.leave.new.self c.leave.ensures.away c.leave.ensures.here in
     omega (arith, lt, c.args.code.now.code.ins.ok)
 
 pub go_to-requires-clause-stacked : goal.go_to-requires-clause-stacked
 go_to-requires-clause-stacked c =
     let there = read_call c.args.code.now c.args.self.now c.requires.at_work c.requires.piece c.pop.new.self.items c.in-Some.frame
-    c.in-Some.ensures.items c.pop.new.self refl c.in-Some.ensures.capacity c.leave.new.self c.leave.ensures.away c.leave.ensures.here
+    c.in-Some.ensures.items c.pop.new.self refl c.in-Some.ensures.room c.leave.new.self c.leave.ensures.away c.leave.ensures.here
     c.index.result.now c.index.ensures in
     let count : (es : List Expression) → c.ins_len.result ≡ length (values_in c.in-Some.frame.body.op.now.sig.params.items es) =
     λ es. c.ins_len.ensures es ∙ ap (λ ps. length (values_in ps es)) c.deref-2.ensures.value in
     let put = c.store.ensures.here in
     back_after c.args.code.now c.args.self.now c.requires.at_work c.requires.piece c.pop.new.self.items c.in-Some.frame
-    c.in-Some.ensures.items c.pop.new.self refl c.in-Some.ensures.capacity c.leave.new.self c.leave.ensures.away c.leave.ensures.here
+    c.in-Some.ensures.items c.pop.new.self refl c.in-Some.ensures.room c.leave.new.self c.leave.ensures.away c.leave.ensures.here
     c.in-Call.op c.in-Call.actuals c.in-Call.outs (there ∙ ap Some c.in-Call.is) c.ins_len.result count
     c.as_slice.result.now c.store.new.slots c.store.ensures.away c.store.ensures.len c.store.ensures.here
 
 pub go_to-requires-clause-amid : goal.go_to-requires-clause-amid
 go_to-requires-clause-amid c =
     let there = read_call c.args.code.now c.args.self.now c.requires.at_work c.requires.piece c.pop.new.self.items c.in-Some.frame
-    c.in-Some.ensures.items c.pop.new.self refl c.in-Some.ensures.capacity c.leave.new.self c.leave.ensures.away c.leave.ensures.here
+    c.in-Some.ensures.items c.pop.new.self refl c.in-Some.ensures.room c.leave.new.self c.leave.ensures.away c.leave.ensures.here
     c.index.result.now c.index.ensures in
     let count : (es : List Expression) → c.ins_len.result ≡ length (values_in c.in-Some.frame.body.op.now.sig.params.items es) =
     λ es. c.ins_len.ensures es ∙ ap (λ ps. length (values_in ps es)) c.deref-2.ensures.value in
     behind_amid c.args.code.now c.args.self.now c.requires.at_work c.requires.piece c.pop.new.self.items c.in-Some.frame
-    c.in-Some.ensures.items c.pop.new.self refl c.in-Some.ensures.capacity c.leave.new.self c.leave.ensures.away c.leave.ensures.here
+    c.in-Some.ensures.items c.pop.new.self refl c.in-Some.ensures.room c.leave.new.self c.leave.ensures.away c.leave.ensures.here
     c.in-Call.op c.in-Call.actuals c.in-Call.outs (there ∙ ap Some c.in-Call.is) c.ins_len.result count
     c.as_slice.result.now c.store.new.slots c.store.ensures.away c.store.ensures.len c.store.ensures.here
 
 pub returns : goal.returns
 returns c =
     let there = read_call c.args.code.now c.args.self.now c.requires.at_work c.requires.piece c.pop.new.self.items c.in-Some.frame
-    c.in-Some.ensures.items c.pop.new.self refl c.in-Some.ensures.capacity c.leave.new.self c.leave.ensures.away c.leave.ensures.here
+    c.in-Some.ensures.items c.pop.new.self refl c.in-Some.ensures.room c.leave.new.self c.leave.ensures.away c.leave.ensures.here
     c.index.result.now c.index.ensures in
     let count : (es : List Expression) → c.ins_len.result ≡ length (values_in c.in-Some.frame.body.op.now.sig.params.items es) =
     λ es. c.ins_len.ensures es ∙ ap (λ ps. length (values_in ps es)) c.deref-2.ensures.value in
@@ -136,7 +135,7 @@ returns c =
     c.hand_out.ensures in
     let put = c.store.ensures.here in
     returned c.args.code.now c.args.self.now c.requires.at_work c.requires.piece c.pop.new.self.items c.in-Some.frame
-    c.in-Some.ensures.items c.pop.new.self refl c.in-Some.ensures.capacity c.leave.new.self c.leave.ensures.away c.leave.ensures.here
+    c.in-Some.ensures.items c.pop.new.self refl c.in-Some.ensures.room c.leave.new.self c.leave.ensures.away c.leave.ensures.here
     c.in-Call.op c.in-Call.actuals c.in-Call.outs (there ∙ ap Some c.in-Call.is) c.ins_len.result count c.hand_out.new.values c.store.new.slots
     c.store.ensures.away c.store.ensures.len
     (λ scope ns st many. put scope ns st many ∙ ap (λ vs. set_all (target_slots scope ns) vs c.leave.new.self.here) c.as_slice.ensures.values)

@@ -10,8 +10,9 @@ pub open_data-requires-clause-room : goal.open_data-requires-clause-room
 open_data-requires-clause-room c =
     let e = ap length c.in_ok-slots.ensures.here in
     let zero : ℕ = 0 in
-    let k = length-replicate c.args.room zero in
-    omega (arith, e, k, c.requires)
+    let k = length-replicate c.args.room.slots zero in
+    let le = c.requires c.in_ok-slots.ensures.small in
+    omega (arith, e, k, le)
 
 pub returns-clause-vars : goal.returns-clause-vars
 returns-clause-vars c =
@@ -22,4 +23,4 @@ returns-clause-vars c =
 pub returns-clause-count : goal.returns-clause-count
 returns-clause-count c =
     let zero : ℕ = 0 in
-    c.open_data.ensures.len ∙ ap length c.in_ok-slots.ensures.here ∙ length-replicate c.args.room zero
+    c.open_data.ensures.len ∙ ap length c.in_ok-slots.ensures.here ∙ length-replicate c.args.room.slots zero

@@ -1,0 +1,43 @@
+#!/usr/bin/env bash
+# Runs each verb on a design of 1,048,576 bytes with 30 threads and 14,000 operations under a limit of 400,000 KB of address space, as batch
+# systems set one: what the program reserves is in proportion to the text, whether it is written to or not. It runs the proved program, or the
+# one that PROGRAM names, and LIMIT sets another limit in KB. Each run must end with status 0 and say nothing on standard error. Where one does
+# not, the script ends with status 1. It needs Linux and Python 3.
+set -uo pipefail
+
+top=$(CDPATH='' cd -- "$(dirname -- "${BASH_SOURCE[0]}")/../.." && pwd) || exit 1
+program=$(realpath -- "${PROGRAM:-$top/crates/hrthood/out/hrthood}") || exit 1
+[ -x "$program" ] || { echo "no program $program" >&2; exit 1; }
+limit=${LIMIT:-400000}
+room=$(mktemp -d) || exit 1
+trap 'rm -rf "$room"' EXIT
+cd "$room" || exit 1
+python3 "$top/tools/gate/large_design.py" . || exit 1
+differences=0
+
+# Runs words under the limit. Its standard output stays in the file out.
+runs() {
+    local status=0
+    (ulimit -v "$limit" && exec timeout 120 "$program" "$@") </dev/null >out 2>err || status=$?
+    if [ "$status" -eq 0 ] && [ ! -s err ] && [ -s out ]; then
+        echo "hrthood $*: as wanted, $(wc -c <out) bytes"
+    else
+        echo "hrthood $*: status $status under $limit KB, $(wc -c <out) bytes, standard error '$(head -c 200 err)'" >&2
+        differences=$((differences + 1))
+    fi
+}
+
+runs check large.design
+runs analyse large.design
+runs format large.design
+runs search large.design
+runs scale large.design
+runs sample 30
+runs background large.design
+runs generate large.design
+mv out large.ada
+runs replay large.ada large.arrivals
+runs verify large.design large.arrivals
+sed '1,/^-- trace$/d' out >large.trace
+runs accepts large.design large.arrivals large.trace
+[ "$differences" -eq 0 ]

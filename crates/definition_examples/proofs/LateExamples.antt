@@ -11,8 +11,8 @@ use Rattle.late_response.specs.Late.{IsNear, IsFar, OfBoth, IsWithin, IsOver, Ne
 use Rattle.late_response.specs.Late.{IsBehind, IsTold, AreTold}
 use Rattle.late_response.specs.Laws.{HasJitter, AreAbove, AreSolved, AreSame, told_sum, told_jitter, told_entry, IsInTime, solved_with}
 use Rattle.late_response.specs.Utilisation.{utilisation, IsPerMille}
-use Rattle.late_response.proofs.LateLaws.{told-once}
-use Rattle.late_response.proofs.Places.{some-same}
+use Rattle.late_response.proofs.Shared.LateLaws.{told-once}
+use Rattle.late_response.proofs.Shared.Places.{some-same}
 
 abbrev bound : ℕ → ℕ → Bound
 bound jitter response = record { jitter = jitter; response = response }

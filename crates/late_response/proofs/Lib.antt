@@ -1,7 +1,6 @@
-pub mod Places
+pub mod Shared
 pub mod Progressing
 pub mod Standing
 pub mod Resting
-pub mod LateLaws
 pub mod Digits
 pub mod ToldLaws

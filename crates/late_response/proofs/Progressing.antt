@@ -11,7 +11,7 @@ use Rattle.late_response.specs.declared.progress.Known.{Known}
 use Rattle.late_response.specs.Progress.{IsSmall, IsSmallReach, AreSmall, IsTaken, reach_of, first_of, first_in}
 use Rattle.late_response.specs.Progress.{next_jitter, next_reach, next_of, next_from, next_at}
 use Rattle.late_response.specs.Progress.{sum_or, marked_at, behind_in, behind_of, worth, total, left_of, next_response}
-use Rattle.late_response.proofs.Places.{some-same, some-none, each-place}
+use Rattle.late_response.proofs.Shared.Places.{some-same, some-none, each-place}
 
 -- the parts of a row in the next round
 pub record NextParts (rows : List ThreadRow) (xs : List Known) (k i : ℕ) (y : Known) : Type 0 where

@@ -13,7 +13,7 @@ use Rattle.late_response.specs.declared.progress.Known.{Known}
 use Rattle.late_response.specs.Late.{IsTold}
 use Rattle.late_response.specs.Progress.{reach_of, sum_or, next_jitter, next_response, next_reach, next_of, next_from, next_at}
 use Rattle.late_response.specs.Progress.{IsSmallReach, AreSmall, left_of, worth, total, IsLiveIn, IsFed, Stands, IsClosed}
-use Rattle.late_response.proofs.Places.{some-same, at_most-at, rounds-rise, round-suc, round-has}
+use Rattle.late_response.proofs.Shared.Places.{some-same, at_most-at, rounds-rise, round-suc, round-has}
 use Rattle.late_response.proofs.Progressing.{next-parts, next-is, total-stays}
 use Rattle.late_response.proofs.Standing.{live-is, fed-jitter, next-told, next-stand}
 

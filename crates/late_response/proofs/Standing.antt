@@ -17,8 +17,8 @@ use Rattle.late_response.specs.Progress.{IsLive, reach_of, first_of, first_in, s
 use Rattle.late_response.specs.Progress.{next_response, next_reach, next_of, next_at}
 use Rattle.late_response.specs.Progress.{behind_of, marked_at, IsLost, IsLiveRow, IsKnown, HasJitterIn, StartsAt}
 use Rattle.late_response.specs.Progress.{IsLiveIn, IsFed, Stands, IsClosed}
-use Rattle.late_response.proofs.Places.{some-same, some-none, round-long, round-suc, round-has, starts-within}
-use Rattle.late_response.proofs.Places.{needs-starts, starts-needs, of-both}
+use Rattle.late_response.proofs.Shared.Places.{some-same, some-none, round-long, round-suc, round-has, starts-within}
+use Rattle.late_response.proofs.Shared.Places.{needs-starts, starts-needs, of-both}
 use Rattle.late_response.proofs.Progressing.{next-parts, next-is, marked-parts}
 
 abbrev bound : ℕ → ℕ → Bound

@@ -13,8 +13,8 @@ use Rattle.late_response.specs.declared.reach.Reach.TheVariants.{Solved, Beyond,
 use Rattle.late_response.specs.Late.{Needs, itself, through, IsSolved, IsTold, AreTold}
 use Rattle.late_response.specs.Laws.{HasJitter, AreSolved, told_sum, told_jitter, told_entry, ToldMeetsItsEquation, IsInTime, solved_with, NoneIsLate}
 use Rattle.late_response.specs.Laws.{LeastIsTold}
-use Rattle.late_response.proofs.Places.{starts-within, needs-starts}
-use Rattle.late_response.proofs.LateLaws.{solved-equation, solved-in-time, least-solved, told-once, over-or-within, rests-once, same-places}
+use Rattle.late_response.proofs.Shared.Places.{starts-within, needs-starts}
+use Rattle.late_response.proofs.Shared.LateLaws.{solved-equation, solved-in-time, least-solved, told-once, over-or-within, rests-once, same-places}
 
 -- what a solved row needs is told to be solved
 needed-solved : (rows : List ThreadRow) (i s : ℕ) (b : Bound) (r : Reach) → IsSolved rows i b → Needs rows i s → IsTold rows s r

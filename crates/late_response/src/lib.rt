@@ -5,6 +5,11 @@
 //! definitions of `specs/Late`. That solved rows are the least solution, that they are the bounds of `respond` where there are some, and
 //! that a row that is given up is late in every solution, are laws over the definitions. `utilisation` is the sum of cost / period of all
 //! rows in whole per mille, computed as an exact fraction.
+//!
+//! Other crates may cite these proofs of it (`proofs/Shared`):
+//!
+//! - `Places`: rows, rounds and vectors by their places, and what a row needs.
+//! - `LateLaws`: each row is told once; solved rows are the least solution, and bounds are solved rows.
 #![tactic(auto)]
 
 mod behind;

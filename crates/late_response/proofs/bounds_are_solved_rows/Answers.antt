@@ -1,4 +1,4 @@
-use Rattle.late_response.proofs.LateLaws.{least-solved}
+use Rattle.late_response.proofs.Shared.LateLaws.{least-solved}
 use Rattle.late_response.proofs.bounds_are_solved_rows.Goals as goal
 
 pub returns : goal.returns

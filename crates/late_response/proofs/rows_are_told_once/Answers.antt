@@ -1,4 +1,4 @@
-use Rattle.late_response.proofs.LateLaws.{told-once}
+use Rattle.late_response.proofs.Shared.LateLaws.{told-once}
 use Rattle.late_response.proofs.rows_are_told_once.Goals as goal
 
 pub returns : goal.returns

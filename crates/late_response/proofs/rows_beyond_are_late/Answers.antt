@@ -1,4 +1,4 @@
-use Rattle.late_response.proofs.LateLaws.{beyond-late}
+use Rattle.late_response.proofs.Shared.LateLaws.{beyond-late}
 use Rattle.late_response.proofs.rows_beyond_are_late.Goals as goal
 
 pub returns : goal.returns

@@ -20,8 +20,8 @@ use Rattle.late_response.specs.Late.{IsNear, IsFar, OfBoth, Needs, DependsOn, it
 use Rattle.late_response.specs.Laws.{SolvedIsLeast, HasJitter, AreAbove, SolvedMeetsItsEquation, AreSolved, SolvedInTimeIsLeast}
 use Rattle.late_response.specs.Laws.{LeastIsSolved, BeyondIsLate, ToldOnce}
 use Rattle.late_response.specs.Progress.{StartsAt}
-use Rattle.late_response.proofs.Places.{some-same, some-none, at_most-at, round-long, rounds-rise, round-suc, round-has, starts-within}
-use Rattle.late_response.proofs.Places.{needs-starts, of-both, from-both}
+use Rattle.late_response.proofs.Shared.Places.{some-same, some-none, at_most-at, round-long, rounds-rise, round-suc, round-has, starts-within}
+use Rattle.late_response.proofs.Shared.Places.{needs-starts, of-both, from-both}
 
 pub solved-least : SolvedIsLeast
 solved-least rows i b c u solved meets at =

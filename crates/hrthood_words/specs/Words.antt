@@ -25,10 +25,10 @@ verbs = (codes "check", Design Check)
     ∷ (codes "replay", AdaArrivals)
     ∷ (codes "verify", DesignArrivals)
     ∷ (codes "sample", Count)
-    ∷ (codes "search", Design Search)
-    ∷ (codes "scale", Design Scale)
     ∷ (codes "background", Design Background)
     ∷ (codes "accepts", DesignArrivalsTrace)
+    ∷ (codes "search", Design Search)
+    ∷ (codes "scale", Design Scale)
     ∷ []
 
 -- what the first of these verbs asks for that is written so, where there is one

@@ -45,10 +45,10 @@ pub const VERBS: [(&str, Shape); 11] = [
     ("replay", Shape::AdaArrivals),
     ("verify", Shape::DesignArrivals),
     ("sample", Shape::Count),
-    ("search", Shape::Design(DesignVerb::Search)),
-    ("scale", Shape::Design(DesignVerb::Scale)),
     ("background", Shape::Design(DesignVerb::Background)),
     ("accepts", Shape::DesignArrivalsTrace),
+    ("search", Shape::Design(DesignVerb::Search)),
+    ("scale", Shape::Design(DesignVerb::Scale)),
 ];
 
 /// The operands of a shape in the usage line, a letter each, with a space before it.

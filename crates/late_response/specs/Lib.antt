@@ -1,0 +1,3 @@
+pub mod Late
+pub mod Laws
+pub mod Progress

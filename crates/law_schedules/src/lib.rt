@@ -1,13 +1,15 @@
 //! The schedule law: response times that meet the response equations hold in every schedule.
 //!
 //! It stands on `rt_response` for the equations, and speaks of numbers alone: `specs/Schedules.antt`
-//! says what a schedule is, with no program, no statement and no section. The promise is the contract
-//! of `schedules_respond`, whose body is empty.
+//! says what a schedule is, with no program, no statement and no section, and `specs/Rests.antt` when a
+//! level rests. The promises are the contracts of `schedules_respond`, `levels_rest` and `chains_rest`,
+//! whose bodies are empty.
 //!
 //! Other crates may cite these proofs of it (`proofs/Shared`):
 //!
 //! - `Equations`: what a vector that fits gives each row: its equation, its limits, and the entries of its level.
 //! - `Law`: the schedule law, by induction on time: from each start of a level the next comes within the level's response time.
+//! - `RestSteps`: a level rests within its response time, and the activations of a chain that begins within it end by then.
 #![tactic(auto)]
 
 ghost use Rattle.std.specs.Prelude.{List};

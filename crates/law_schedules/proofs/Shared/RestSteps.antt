@@ -1,11 +1,7 @@
 -- A level rests within its response time, and with it a chain of its activations.
-use Rattle.std.specs.Prelude.{◌≡◌, ◌⊎◌, ℕ, zero, suc, ◌+◌, ◌≤◌, ◌<◌, Bool, true, false, List, [], ◌∷◌, length, slice_get, Option, Some, None, nat_lt, refl}
-use Rattle.std.proofs.Common.{sym, ◌∙◌, arith, le_refl, zero-le}
-use Rattle.rt_response.specs.declared.rows.ThreadRow.{ThreadRow}
-use Rattle.rt_response.specs.declared.rows.Bound.{Bound}
-use Rattle.rt_response.specs.Response.{Fits}
-use Rattle.rt_response.specs.Tables.{IsTable}
-use Rattle.law_schedules.specs.Schedules.{Activation, Schedule, horizon, is_over, IsOfLevel, IsOverBy, IsStart, IsSchedule}
+use Rattle.std.specs.Prelude.{◌≡◌, ℕ, zero, suc, ◌+◌, ◌≤◌, ◌<◌, Bool, true, false, List, [], ◌∷◌, Option, nat_lt, refl}
+use Rattle.std.proofs.Common.{sym, ◌∙◌, arith, zero-le}
+use Rattle.law_schedules.specs.Schedules.{Activation, Schedule, horizon, is_over, IsOverBy, IsStart}
 use Rattle.law_schedules.proofs.Counts.{each-get, each-from, IsReady}
 use Rattle.law_schedules.proofs.Windows.{over-later}
 use Rattle.law_schedules.proofs.Shared.Law.{IsNext, on-time, response-some, start-after}

@@ -101,6 +101,14 @@ function acceptsView(out) {
   ];
 }
 
+/** `explain`: what each response time is made up of, also where threads are over their limits. */
+function explainView(out) {
+  const head = out.startsWith("miss ")
+    ? "A thread is over its limits: the lines late, beyond and behind tell which are, and delayed and blocked what takes them there."
+    : "Each thread keeps its limits, and these are the terms of its response time.";
+  return [make("p", {}, make("b", {}, head)), linesOf(out.trimEnd().split("\n"))];
+}
+
 const NO_TRACE = "Paste a trace below, open a file, or take that of this page's run and change it: is it one that the design allows under the "
   + "arrivals, wherever it comes from?";
 const NO_MACHINE = "No trace of a design with background objects can be judged.";
@@ -112,6 +120,7 @@ const VERBS = [
   { verb: "search", label: "Search", takes: ["design"], file: "search.txt", view: searchView },
   { verb: "background", label: "Background", takes: ["design"], file: "background.ada", view: backgroundView },
   { verb: "accepts", label: "Check a trace", takes: ["design", "arrivals", "trace"], file: "verdict.txt", view: acceptsView, none: NO_TRACE },
+  { verb: "explain", label: "Explain", takes: ["design"], file: "explanation.txt", view: explainView },
 ];
 
 /** The tab of a verb. Its run begins when the tab is chosen, and again when a text that it takes has changed meanwhile. */

@@ -50,8 +50,8 @@ tells() {
     [ ! -s out ] || report "hrthood ${*:3}" "standard output has: $(head -c 200 out)"
 }
 
-usage='usage: hrthood check D | analyse D | format D | generate D | replay A R | verify D R | sample N | search D | scale D | background D'
-usage+=' | accepts D R T'
+usage='usage: hrthood check D | analyse D | format D | generate D | replay A R | verify D R | sample N | background D | accepts D R T'
+usage+=' | search D | scale D | explain D'
 tells 2 "$usage"
 tells 2 "$usage" check
 tells 2 "$usage" check one_cyclic_object.design two

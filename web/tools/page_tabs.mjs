@@ -51,7 +51,7 @@ export async function tryVerbTabs(page) {
     judge(told.head.includes(head) && told.text.includes(next), `the margin of ${design}: ${told.text}`);
   }
   await page.evaluate("document.getElementById('tab-scale').focus()");
-  const tabs = ["bounds", "timeline", "trace", "ada", "scale", "search", "background", "accepts"];
+  const tabs = ["bounds", "timeline", "trace", "ada", "scale", "search", "background", "accepts", "explain"];
   for (const [index, tab] of tabs.entries()) {
     await page.press(String(index + 1), 1, `Digit${index + 1}`);
     same(await page.evaluate(`document.getElementById('panel-${tab}').hidden`), false, `Alt and ${index + 1} choose ${tab}`);

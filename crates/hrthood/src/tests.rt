@@ -9,6 +9,7 @@ mod changed_tokens;
 mod checks;
 mod damaged;
 mod designs;
+mod explains;
 mod formats;
 mod full_sinks;
 mod generates;

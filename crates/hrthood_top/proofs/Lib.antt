@@ -10,6 +10,8 @@ pub mod OneRule
 pub mod OneBounds
 pub mod VerbLaws
 pub mod CheckLaws
+pub mod ExplainLaws
+pub mod ExplainSteps
 pub mod AcceptanceLaws
 pub mod Judged
 pub mod AnalyseLaws

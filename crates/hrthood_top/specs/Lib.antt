@@ -3,6 +3,7 @@ pub mod Verbs
 pub mod Messages
 pub mod Tells
 pub mod Checks
+pub mod Explanations
 pub mod Formats
 pub mod Generates
 pub mod Analyses

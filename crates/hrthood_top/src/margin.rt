@@ -28,7 +28,7 @@ fn add_value(text: &mut Vec<u8>, miss: &Miss) -> Result<(), NoMemory>
 }
 
 /// Adds a value of a thread that is over its limit, behind the code of the limit and the thread.
-fn add_miss(text: &mut Vec<u8>, thread: &Name, miss: &Miss) -> Result<(), NoMemory>
+pub(crate) fn add_miss(text: &mut Vec<u8>, thread: &Name, miss: &Miss) -> Result<(), NoMemory>
     ensures { OnOk result (text.new.items ≡ text.old.items ++ miss_text thread.now miss.now) }
 {
     text.extend_from_slice(limit_text(miss.which))?;

@@ -51,7 +51,7 @@ fn add_bound(text: &mut Vec<u8>, bound: &NamedBound) -> Result<(), NoMemory>
 }
 
 /// Adds the line of a ceiling.
-fn add_ceiling(text: &mut Vec<u8>, row: &CeilingRow) -> Result<(), NoMemory>
+pub(crate) fn add_ceiling(text: &mut Vec<u8>, row: &CeilingRow) -> Result<(), NoMemory>
     ensures { OnOk result (text.new.items ≡ text.old.items ++ ceiling_line row.now) }
 {
     text.extend_from_slice(b"ceiling ")?;

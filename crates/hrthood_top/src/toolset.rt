@@ -13,6 +13,7 @@ use crate::accepts::accepts;
 use crate::analyse::analyse_text;
 use crate::background_text::make_background;
 use crate::check::check_text;
+use crate::explain::explain_text;
 use crate::fetch::{File, fetch_files};
 use crate::file_kind::FileKind;
 use crate::finish::{finish, tell_stop, tell_unread};
@@ -48,6 +49,7 @@ fn do_text<O: Sink, E: Sink>(
         DesignVerb::Search => finish(out, err, search_text(alloc, design)),
         DesignVerb::Scale => finish(out, err, scale_text(alloc, design)),
         DesignVerb::Background => finish(out, err, make_background(alloc, design)),
+        DesignVerb::Explain => finish(out, err, explain_text(alloc, design)),
     }
 }
 

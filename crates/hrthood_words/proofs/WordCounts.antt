@@ -4,7 +4,8 @@ use Rattle.std.specs.Prelude.{option_and_then}
 use Rattle.clap.specs.Walk.{Text}
 use Rattle.hrthood_words.specs.declared.verbs.Shape.{Shape}
 use Rattle.hrthood_words.specs.declared.verbs.Shape.TheVariants.{Design, AdaArrivals, DesignArrivals, DesignArrivalsTrace, Count}
-use Rattle.hrthood_words.specs.Words.{command_of, command_with, shape_named, verbs}
+use Rattle.hrthood_words.specs.Words.{command_of, command_with, shape_named, verb_command, verbs}
+use Rattle.hrthood_words.specs.Parsing.{words_found}
 
 -- a verb alone
 alone : (shape : Option Shape) → option_and_then (λ s. command_with s []) shape ≡ None
@@ -30,6 +31,11 @@ pub alone-none : {X : Type 0} (bytes : X → Text) (words : List X) (verb : X) (
     → command_of (map bytes words) ≡ None
 alone-none bytes words verb [] e short = ap (λ z. command_of (map bytes z)) e ∙ alone (shape_named verbs (bytes verb))
 alone-none bytes words verb (x ∷ xs) e short = absurd (omega (arith, short))
+
+-- none was found behind it
+pub unfound-none : (verb : Text) (a b c : Option Text) → a ≡ None → verb_command verb (words_found a b c) ≡ None
+unfound-none verb None b c e = alone (shape_named verbs verb)
+unfound-none verb (Some a) b c e = absurd (cc e)
 
 -- four or more follow it
 pub crowded-none : {X : Type 0} (bytes : X → Text) (words : List X) (verb a b c : X) (behind after past rest : List X) → words ≡ verb ∷ behind

@@ -6,7 +6,7 @@ use Rattle.std.specs.Prelude.{Option, Some, None, option_map, option_and_then, i
 use Rattle.std.specs.Char.{is_ascii_digit}
 use Rattle.std.specs.Str.{bytes_eq}
 use Rattle.hrthood_words.specs.declared.verbs.DesignVerb.{DesignVerb}
-use Rattle.hrthood_words.specs.declared.verbs.DesignVerb.TheVariants.{Check, Analyse, Format, Generate, Search, Scale, Background}
+use Rattle.hrthood_words.specs.declared.verbs.DesignVerb.TheVariants.{Check, Analyse, Format, Generate, Search, Scale, Background, Explain}
 use Rattle.hrthood_words.specs.declared.verbs.Shape.{Shape}
 use Rattle.hrthood_words.specs.declared.verbs.Shape.TheVariants.{Design, AdaArrivals, DesignArrivals, DesignArrivalsTrace, Count}
 
@@ -25,10 +25,11 @@ verbs = (codes "check", Design Check)
     ∷ (codes "replay", AdaArrivals)
     ∷ (codes "verify", DesignArrivals)
     ∷ (codes "sample", Count)
-    ∷ (codes "search", Design Search)
-    ∷ (codes "scale", Design Scale)
     ∷ (codes "background", Design Background)
     ∷ (codes "accepts", DesignArrivalsTrace)
+    ∷ (codes "search", Design Search)
+    ∷ (codes "scale", Design Scale)
+    ∷ (codes "explain", Design Explain)
     ∷ []
 
 -- what the first of these verbs asks for that is written so, where there is one

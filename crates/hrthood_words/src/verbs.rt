@@ -19,6 +19,8 @@ pub enum DesignVerb {
     Scale,
     /// Make the Ada text of a design with background objects.
     Background,
+    /// Tell what its bounds are made up of, or why it has none.
+    Explain,
 }
 
 /// The operands that a verb asks for, and which of the verbs that ask for these it is, where there are several.
@@ -37,7 +39,7 @@ pub enum Shape {
 }
 
 /// The verbs in the order of the usage line, each as it is written, with what it asks for.
-pub const VERBS: [(&str, Shape); 11] = [
+pub const VERBS: [(&str, Shape); 12] = [
     ("check", Shape::Design(DesignVerb::Check)),
     ("analyse", Shape::Design(DesignVerb::Analyse)),
     ("format", Shape::Design(DesignVerb::Format)),
@@ -45,10 +47,11 @@ pub const VERBS: [(&str, Shape); 11] = [
     ("replay", Shape::AdaArrivals),
     ("verify", Shape::DesignArrivals),
     ("sample", Shape::Count),
-    ("search", Shape::Design(DesignVerb::Search)),
-    ("scale", Shape::Design(DesignVerb::Scale)),
     ("background", Shape::Design(DesignVerb::Background)),
     ("accepts", Shape::DesignArrivalsTrace),
+    ("search", Shape::Design(DesignVerb::Search)),
+    ("scale", Shape::Design(DesignVerb::Scale)),
+    ("explain", Shape::Design(DesignVerb::Explain)),
 ];
 
 /// The operands of a shape in the usage line, a letter each, with a space before it.

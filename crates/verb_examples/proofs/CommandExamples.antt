@@ -80,8 +80,8 @@ start = record {
 
 abbrev usage_line : List ℕ
 usage_line =
-    codes "usage: hrthood check D | analyse D | format D | generate D | replay A R | verify D R | sample N | search D | scale D | background D"
-    ++ codes " | accepts D R T\n"
+    codes "usage: hrthood check D | analyse D | format D | generate D | replay A R | verify D R | sample N | background D | accepts D R T"
+    ++ codes " | search D | scale D | explain D\n"
 
 usage : Ends Usage None start (record start { err = Some usage_line })
 usage = (refl, refl, inl refl)

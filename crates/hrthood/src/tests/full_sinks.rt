@@ -110,8 +110,8 @@ fn a_byte_at_a_time(rt: HostRuntime) {
 const TOLD: &[&str] = &[
     "words: check
     status: usage
-    err: usage: hrthood check D | analyse D | format D | generate D | replay A R | verify D R | sample N | search D | scale D | \
-        background D | accepts D R T",
+    err: usage: hrthood check D | analyse D | format D | generate D | replay A R | verify D R | sample N | background D | \
+        accepts D R T | search D | scale D | explain D",
     "words: check x
     status: read fault
     err: fault reading x",

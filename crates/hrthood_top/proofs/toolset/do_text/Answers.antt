@@ -2,6 +2,7 @@ use Rattle.std.proofs.Common.{ℕ, Vec, Global}
 use Rattle.hrthood_top.specs.Analyses.{of_analyse}
 use Rattle.hrthood_top.specs.Backgrounds.{of_background}
 use Rattle.hrthood_top.specs.Checks.{of_check}
+use Rattle.hrthood_top.specs.Explanations.{of_explain}
 use Rattle.hrthood_top.specs.Formats.{of_format}
 use Rattle.hrthood_top.specs.Generates.{of_generate}
 use Rattle.hrthood_top.specs.Scales.{of_scale}
@@ -36,3 +37,7 @@ returns-in-Scale g c =
 pub returns-in-Background : goal.returns-in-Background
 returns-in-Background g c =
     rw c.in-Background.is (design-streams (λ (v : Vec ℕ Global). v.items) of_background c.args.design.now _ _ _ _ _ _ _ _ _ _ c.make_background.ensures c.finish-in-Background.ensures)
+
+pub returns-in-Explain : goal.returns-in-Explain
+returns-in-Explain g c =
+    rw c.in-Explain.is (design-streams (λ (v : Vec ℕ Global). v.items) of_explain c.args.design.now _ _ _ _ _ _ _ _ _ _ c.explain_text.ensures c.finish-in-Explain.ensures)

@@ -1,0 +1,2 @@
+pub mod ThreadSteps
+pub mod ExplainSteps

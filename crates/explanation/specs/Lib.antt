@@ -1,0 +1,5 @@
+pub mod Findings
+pub mod Threads
+pub mod Values
+pub mod Delays
+pub mod Explanations

@@ -264,10 +264,9 @@ impl<'a> Machine<'a> {
     ghost use Rattle.linked_task.specs.Doings.{StaysOutside};
     ghost use Rattle.ceil_runtime.specs.Stepping.{HasStopped, IsStep, Nothing, Steps, StepsTelling, before_arrival};
 
-    /// The opening of a program under arrivals that are accepted for it. The one error is want of memory: a failed allocation, and two
-    /// limits that are told as one. A protected object may have fewer than 2^32 operations, since an event tells their places in 32
-    /// bits, and the room for the variables and frames of a task, a sum over the operations of the program, must fit a `usize`. No
-    /// program that was read from 16,777,216 bytes comes near either.
+    /// The opening of a program under arrivals that are accepted for it. The one error is want of memory: a failed allocation, and a limit
+    /// that is told as one. A protected object may have fewer than 2^32 operations, since an event tells their places in 32 bits. No
+    /// program that was read from 16,777,216 bytes comes near it.
     pub fn new(
         alloc: Global,
         program: &'a AdaProgram,

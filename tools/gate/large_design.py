@@ -1,6 +1,6 @@
 #!/usr/bin/env python3
-"""large_design.py FOLDER: writes large.design, large.arrivals and large.background there: a design of 1,048,576 bytes, the most that one may have, with 30
-threads and 14,000 operations of passive objects, 64 of which call each other in a chain, an arrivals file for it, and a design for `background`."""
+"""large_design.py FOLDER: writes large.design and large.arrivals there: a design of 1,048,576 bytes, the most that one may have, with 30 threads and
+14,000 operations of passive objects, 64 of which call each other in a chain, and an arrivals file under which its trace has over 100,000 bytes."""
 import sys
 
 COSTS = "COSTS ASSIGN = 1; TEST = 1; TURN = 1; CALL = 1; NULL = 1; PUT = 1; FINISH = 1; END COSTS;\n"
@@ -39,4 +39,4 @@ folder = sys.argv[1]
 with open(f"{folder}/large.design", "w", encoding="ascii") as it:
     it.write(large())
 with open(f"{folder}/large.arrivals", "w", encoding="ascii") as it:
-    it.write("UNTIL 20000;\n")
+    it.write("UNTIL 1000000;\n")

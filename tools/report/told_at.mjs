@@ -9,7 +9,7 @@
 import { spawnSync } from "node:child_process";
 import { readFileSync, realpathSync, statSync, writeSync } from "node:fs";
 import { dirname, join, relative } from "node:path";
-import { argv, cwd, env, exit, kill, pid, stderr } from "node:process";
+import { argv, env, exit, kill, pid, stderr } from "node:process";
 import { fileURLToPath } from "node:url";
 import { Refusals } from "../../web/refusals.js";
 
@@ -48,7 +48,7 @@ function toldOf(/** @type {string} */ line, /** @type {string[]} */ words) {
 function offersFor(/** @type {string} */ line, /** @type {string[]} */ words) {
   const { design } = filesOf(words);
   if (!/^refused U[12] /.test(line) || textOf(design) === undefined) return [];
-  return [`\`${relative(cwd(), join(TOP, "tools/report/mend.py"))} ${design}\` lists changes by which it passes.`];
+  return [`\`${relative("", join(TOP, "tools/report/mend.py"))} ${design}\` lists changes by which it passes.`];
 }
 
 /** The words for a line of the program, to stand under it. */

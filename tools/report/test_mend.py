@@ -8,7 +8,9 @@ reported. No part of the gate.
 """
 from __future__ import annotations
 
+import contextlib
 import csv
+import io
 import os
 import random
 import re
@@ -64,11 +66,15 @@ END nested;
 
 
 def table_of(room: str, text: str) -> list[Row]:
-    """The rows that mend.py writes of a design."""
+    """The rows that mend.py writes of a design. None is left out."""
     file = os.path.join(room, 'one.design')
     with open(file, 'w', encoding='utf-8') as out:
         out.write(text)
-    return list(mend.rows_of(mend.Program(PROGRAM, room), file))
+    err = io.StringIO()
+    with contextlib.redirect_stderr(err):
+        rows = list(mend.rows_of(mend.Program(PROGRAM, room), file))
+    assert err.getvalue() == '', err.getvalue()
+    return rows
 
 
 def example(name: str) -> str:

@@ -36,7 +36,11 @@ class Model:
         self.design = design
         self.starters = design.starters()
         self.users = design.users()
-        self.sections = design.sections()
+        self.entering: dict[Operation, list[int]] = {}
+        for thread, entered in enumerate(design.sections()):
+            for one in entered:
+                self.entering.setdefault(one, []).append(thread)
+        self.blocked: dict[tuple[int, ...], list[tuple[Operation, int, int]]] = {}
         attributes = [thread.attributes for thread in design.threads]
         self.numbers = self.priced(Pricing(design), Numbers(
             [own.get('PERIOD', own.get('SEPARATION', 0)) for own in attributes], [own['DEADLINE'] for own in attributes],
@@ -46,17 +50,23 @@ class Model:
         """The numbers with other costs of bodies."""
         finish = self.design.costs['FINISH']
         costs = [pricing.block(thread.thread.block) + finish for thread in self.design.threads if thread.thread is not None]
-        return replace(numbers, costs=costs, sections={one: pricing.operation(one) for entered in self.sections for one in entered})
+        return replace(numbers, costs=costs, sections={one: pricing.operation(one) for one in self.entering})
 
     def blockings(self, order: list[int], numbers: Numbers) -> list[int]:
         """The blocking of each place of an order: the longest section of a thread below whose ceiling reaches it."""
-        place = {thread: number for number, thread in enumerate(order)}
+        if tuple(order) not in self.blocked:
+            self.blocked[tuple(order)] = self.blocked_places(order)
         blockings = [0] * len(order)
-        for thread, entered in enumerate(self.sections):
-            for one in entered:
-                for above in range(min(place[user] for user in self.users[one[0]]), place[thread]):
-                    blockings[above] = max(blockings[above], numbers.sections[one])
+        for one, first, end in self.blocked[tuple(order)]:
+            for place in range(first, end):
+                blockings[place] = max(blockings[place], numbers.sections[one])
         return blockings
+
+    def blocked_places(self, order: list[int]) -> list[tuple[Operation, int, int]]:
+        """The places that each section may block: from that of the ceiling to that above the lowest thread that enters it."""
+        place = {thread: number for number, thread in enumerate(order)}
+        lowest = {one: max(place[thread] for thread in threads) for one, threads in self.entering.items()}
+        return [(one, min(place[user] for user in self.users[one[0]]), last) for one, last in lowest.items()]
 
     def responses(self, numbers: Numbers) -> list[int] | None:
         """The least response times within the limits, and None where there are none."""

@@ -323,6 +323,13 @@ class Places(unittest.TestCase):
             words = 'V12: b has no children and is ACTIVE.\n  Give it children, or another kind.\n'
             self.assertEqual(run(['node', at, '--words', told, 'check', '/absent']), (0, '', words))
             self.assertEqual(run(['node', at, '--run', 'cat', told])[:2], (0, 'hrthood: not proved\nrefused V12 b\n'))
+            missed = os.path.join(room, 'missed')
+            with open(missed, 'w') as text:
+                text.write('refused U1 decoder value 1001 limit 1000 round 3\n')
+            design = os.path.join(TOP, 'examples', 'late_platform.design')
+            offered = run(['node', at, '--words', missed, 'analyse', design])[2].splitlines()[-1]
+            self.assertRegex(offered, f'^  `.*tools/report/mend.py {re.escape(design)}` lists changes by which it passes[.]$')
+            self.assertNotIn('mend.py /', run(['node', at, '--words', missed, 'analyse', '/absent'])[2])
             shown = f'hrthood: not proved\nrefused V12 b\n{words}'
             self.assertEqual(run(['node', at, '--run', 'sh', '-c', f'cat {told} >&2; exit 3']), (3, '', shown))
 

@@ -8,7 +8,7 @@
 // Standard output and the exit status are the program's. PROGRAM is the path of the program, and that of this repository where it isn't set.
 import { spawnSync } from "node:child_process";
 import { readFileSync, realpathSync, statSync, writeSync } from "node:fs";
-import { dirname, join } from "node:path";
+import { dirname, join, relative } from "node:path";
 import { argv, env, exit, kill, pid, stderr } from "node:process";
 import { fileURLToPath } from "node:url";
 import { Refusals } from "../../web/refusals.js";
@@ -44,11 +44,19 @@ function toldOf(/** @type {string} */ line, /** @type {string[]} */ words) {
     told.notes.map(({ place, says }) => ({ at: at(place), says })) };
 }
 
+/** The lines that offer changes of a design that is refused for its bounds. The script reads the file itself, which a pipe can't be twice. */
+function offersFor(/** @type {string} */ line, /** @type {string[]} */ words) {
+  const { design } = filesOf(words);
+  if (!/^refused U[12] /.test(line) || textOf(design) === undefined) return [];
+  return [`\`${relative("", join(TOP, "tools/report/mend.py"))} ${design}\` lists changes by which it passes.`];
+}
+
 /** The words for a line of the program, to stand under it. */
 function wordsFor(/** @type {string} */ line, /** @type {string[]} */ words) {
   const told = toldOf(line, words);
   if (told === null) return "";
-  const lines = [`${told.at}${told.code}: ${told.says}`, ...told.more.map((one) => `  ${one}`), ...told.notes.map(({ at, says }) => `${at}note: ${says}`)];
+  const more = [...told.more, ...offersFor(line, words)].map((one) => `  ${one}`);
+  const lines = [`${told.at}${told.code}: ${told.says}`, ...more, ...told.notes.map(({ at, says }) => `${at}note: ${says}`)];
   return lines.map((one) => `${one}\n`).join("");
 }
 

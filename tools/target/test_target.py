@@ -17,6 +17,7 @@ EXAMPLES = os.path.join(HERE, '..', '..', 'examples')
 sys.path.insert(0, HERE)
 import costed                   # noqa: E402
 import target                   # noqa: E402
+import test_bodies              # noqa: E402
 import traces                   # noqa: E402
 
 HEAD = """-- design kinds
@@ -245,6 +246,19 @@ class Inputs(unittest.TestCase):
             self.assertEqual('\n'.join(line for line in lines if 'hrt_model' not in line), example(name))
 
 
+class Places(unittest.TestCase):
+    def test_each_statement_of_work_has_a_place(self) -> None:
+        body = test_bodies.body_of('stepped')
+        text, count = test_bodies.with_places(body)
+        lines = text.split('\n')
+        self.assertEqual([line for line in lines if 'hrt_forced' not in line], body.split('\n'))
+        self.assertEqual([line for line in lines[1:] if 'hrt_forced' in line], [test_bodies.CALL % place for place in range(count)])
+        inside = lines[lines.index('   procedure work (ticks : positive) is'):lines.index('   end work;')]
+        self.assertEqual(sum('hrt_forced' in line for line in inside), count)
+        for statement in ('   begin', '         now := ada.real_time.clock;', '         current := calls;', '         else'):
+            self.assertIn('hrt_forced', inside[inside.index(statement) + 1])
+
+
 class Words(unittest.TestCase):
     def run_target(self, *words: Any) -> subprocess.CompletedProcess[str]:
         return subprocess.run([sys.executable, os.path.join(HERE, 'target.py'), *words], capture_output=True, text=True)
@@ -275,10 +289,13 @@ class Words(unittest.TestCase):
     def test_a_host_without_gnat(self) -> None:
         with tempfile.TemporaryDirectory() as room:
             os.symlink(str(shutil.which('dirname')), os.path.join(room, 'dirname'))
+            missing = (3, '', 'gnatmake is missing: install GNAT (Debian: apt-get install gnat)\n')
             for name, words in (('run.sh', ('a.design', 'a.arrivals')), ('measure.sh', ())):
                 answer = self.run_script(name, *words, env={'PATH': room})
-                self.assertEqual((answer.returncode, answer.stdout, answer.stderr),
-                                 (3, '', 'gnatmake is missing: install GNAT (Debian: apt-get install gnat)\n'))
+                self.assertEqual((answer.returncode, answer.stdout, answer.stderr), missing)
+            os.symlink('/bin/sh', os.path.join(room, 'sh'))
+            answer = subprocess.run([sys.executable, os.path.join(HERE, 'test_bodies.py')], capture_output=True, text=True, env={'PATH': room})
+            self.assertEqual((answer.returncode, answer.stdout, answer.stderr), missing)
 
 
 if __name__ == '__main__':

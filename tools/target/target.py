@@ -3,7 +3,8 @@
 
     target.py arrivals ARRIVALS                     the arrivals without lists of durations: the target burns all of a `work`
     target.py tick DESIGN                           microseconds of a tick of a design of version 2, else 1000
-    target.py driver TEXT ARRIVALS FOLDER           writes the package hrt_arrivals, whose tasks make the requests, and the program hrt_run
+    target.py driver TEXT ARRIVALS UNTIL FOLDER     writes the package hrt_arrivals, whose tasks make the requests, and the program hrt_run,
+                                                    which ends one tick after UNTIL
     target.py steps TEXT TRACE RUN                  compares each line of a stepped run with the replay
     target.py log TEXT TRACE RUN                    writes a stepped run as a trace for `hrthood accepts`
     target.py responses TEXT TRACE ARRIVALS TICK_US RUN     compares what is put, and responses with their bounds
@@ -115,7 +116,7 @@ def read_run(text: str, program: traces.Program) -> list[Line]:
 
 # Requests from outside
 
-def driver(text: str, arrivals_text: str) -> dict[str, str]:
+def driver(text: str, arrivals_text: str, until: int) -> dict[str, str]:
     """Ada units, name to text: a task for each unit that is requested, at the priority of its requests, and a main program."""
     program = traces.read_program(text)
     _, arrivals = read_arrivals(arrivals_text)
@@ -136,7 +137,8 @@ def driver(text: str, arrivals_text: str) -> dict[str, str]:
                 body += ['      hrt_next := hrt.epoch + %d * tick;' % arrival.time, '      delay until hrt_next;',
                          '      hrt_next := hrt.after (hrt_next, 0);', '      %s.%s.%s%s;' % (program.design, name, task.operation, value)]
         body += ['      loop', '         delay until ada.real_time.time_last;', '      end loop;', '   end hrt_of_%s;' % name]
-    main = ['with hrt_arrivals;', 'with %s;' % program.design, 'procedure hrt_run is', 'begin', '   null;', 'end hrt_run;']
+    main = ['with hrt;', 'with hrt_arrivals;', 'with hrt_host;', 'with hrt_main;', 'procedure hrt_run is', 'begin',
+            '   delay until hrt.after (hrt.epoch, %d);' % (until + 1), '   hrt_host.leave;', 'end hrt_run;']
     units = {'hrt_arrivals.ads': spec + ['end hrt_arrivals;'], 'hrt_arrivals.adb': body + ['end hrt_arrivals;'], 'hrt_run.adb': main}
     return {name: '\n'.join(lines) + '\n' for name, lines in units.items()}
 
@@ -333,9 +335,9 @@ def do(words: list[str]) -> int:
         sys.stdout.write(without_durations(load(words[1])))
     elif words[:1] == ['tick'] and len(words) == 2:
         print(tick_of(load(words[1])))
-    elif words[:1] == ['driver'] and len(words) == 4:
-        for name, unit in driver(load(words[1]), load(words[2])).items():
-            with open(os.path.join(words[3], name), 'w') as stream:
+    elif words[:1] == ['driver'] and len(words) == 5:
+        for name, unit in driver(load(words[1]), load(words[2]), int(words[3])).items():
+            with open(os.path.join(words[4], name), 'w') as stream:
                 stream.write(unit)
     elif words[:1] == ['steps'] and len(words) == 4:
         return told(compare_steps(read_text(load(words[1])), load(words[2]), load(words[3])))

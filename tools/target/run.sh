@@ -1,9 +1,10 @@
 #!/bin/sh
-# run.sh [-s] [-a] [-p PROFILE] [-t TICK_US] [-c CPU] [-x TARGET] [-m KERNEL] [-k FOLDER] DESIGN ARRIVALS
+# run.sh [-s] [-a] [-l] [-p PROFILE] [-t TICK_US] [-c CPU] [-x TARGET] [-m KERNEL] [-k FOLDER] DESIGN ARRIVALS
 # Generates the Ada text of DESIGN, builds it with GNAT and the example body of package hrt, runs it on one processor up to the horizon of
 # ARRIVALS, and tells how the run agrees with the replay. PROGRAM names the program that generates and replays: ./hrthood of this repository.
 #   -s  stepped: each statement burns its modelled cost, and each line is compared, with its values and its tick
 #   -a  the first file is an Ada text, in the layout of the generator, in the place of a design
+#   -l  a child package for each object, as layout.py lays the text out
 #   -p  Jorvik or Ravenscar: builds under that profile
 #   -t  microseconds of a tick: 10000 with -s, else those of the design, else 1000
 #   -c  the processor: 0; a list as 0-3 shows what happens on several
@@ -19,11 +20,12 @@ usage() {
     exit 2
 }
 
-mode=responses verb=verify profile='' tick='' cpu=0 keep='' target='' kernel=''
-while getopts sap:t:c:x:m:k: option; do
+mode=responses verb=verify profile='' tick='' cpu=0 keep='' target='' kernel='' layout=cat children=''
+while getopts salp:t:c:x:m:k: option; do
     case $option in
         s) mode=steps ;;
         a) verb=replay ;;
+        l) layout=laid_out children=children ;;
         p) profile=$OPTARG ;;
         t) tick=$OPTARG ;;
         c) cpu=$OPTARG ;;
@@ -48,6 +50,10 @@ else
     [ -z "$target" ] || need_emulator "$target"
 fi
 
+laid_out() {
+    python3 "$here/layout.py"
+}
+
 # The folder `room`, which is kept where it was asked for.
 if [ -n "$keep" ]; then
     mkdir -p "$keep" && room=$(cd "$keep" && pwd) || exit 2
@@ -70,10 +76,10 @@ fi
 until=$(sed -n '$s/ .*//p' "$room/trace")
 if [ $mode = steps ]; then
     tick=${tick:-10000}
-    python3 "$here/costed.py" <"$room/text" >"$room/built" || exit 2
+    python3 "$here/costed.py" <"$room/text" >"$room/costed" && $layout <"$room/costed" >"$room/built" || exit 2
 else
     tick=${tick:-$(python3 "$here/target.py" tick "$1")}
-    cp "$room/text" "$room/built"
+    $layout <"$room/text" >"$room/built" || exit 2
 fi
 
 # The folder `build` of Ada units. No line of the text is changed without -s.
@@ -86,7 +92,7 @@ echo 'pragma Initialize_Scalars;' >gnat.adc
 if [ -n "$profile" ]; then
     printf 'pragma Profile (%s);\npragma Partition_Elaboration_Policy (Sequential);\n' "$profile" >>gnat.adc
 fi
-python3 "$here/target.py" driver ../text ../arrivals "$until" . || exit 2
+python3 "$here/target.py" driver ../text ../arrivals "$until" . $children || exit 2
 if [ -n "$target$kernel" ]; then
     "${target:+$target-}gnatmake" -q hrt_run -bargs -static -S00 -largs -static || exit 3
 else

@@ -215,6 +215,10 @@ class Inputs(unittest.TestCase):
         self.assertIn('   task hrt_of_button is\n      pragma priority (3);\n', units['hrt_arrivals.ads'])
         self.assertIn('      hrt_next := hrt.epoch + 21 * tick;\n      delay until hrt_next;\n      hrt_next := hrt.after (hrt_next, 0);\n'
                       '      kinds.button.press (7);\n', units['hrt_arrivals.adb'])
+        self.assertIn('with kinds;\n', units['hrt_arrivals.adb'])
+        children = target.driver(HEAD + example('every_kind.ada'), ARRIVALS, 120, True)
+        self.assertIn('with kinds.button;\n', children['hrt_arrivals.adb'])
+        self.assertNotIn('with kinds;\n', children['hrt_arrivals.adb'])
         self.assertIn('   delay until hrt.after (hrt.epoch, 121);\n   hrt_host.leave;\n', units['hrt_run.adb'])
         with self.assertRaises(traces.Fault):
             target.driver(HEAD + example('every_kind.ada'), 'UNTIL 9; AT 3 sampler;', 9)

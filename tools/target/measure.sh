@@ -10,7 +10,7 @@ set -u
 here=$(CDPATH='' cd -- "$(dirname -- "$0")" && pwd) || exit 2
 cpu=${1:-0}
 . "$here/needs.sh" || exit 2
-need_gnat
+need_gnat ''
 need_priorities "$cpu"
 room=$(mktemp -d) || exit 2
 trap 'rm -rf "$room"' EXIT

@@ -3,7 +3,9 @@
 
     target.py arrivals ARRIVALS                     the arrivals without lists of durations: the target burns all of a `work`
     target.py tick DESIGN                           microseconds of a tick of a design of version 2, else 1000
-    target.py driver TEXT ARRIVALS FOLDER           writes the package hrt_arrivals, whose tasks make the requests, and the program hrt_run
+    target.py driver TEXT ARRIVALS UNTIL FOLDER [children]
+                                                    writes the package hrt_arrivals, whose tasks make the requests, and the program hrt_run,
+                                                    which ends one tick after UNTIL; with `children`, objects are child packages
     target.py steps TEXT TRACE RUN                  compares each line of a stepped run with the replay
     target.py log TEXT TRACE RUN                    writes a stepped run as a trace for `hrthood accepts`
     target.py responses TEXT TRACE ARRIVALS TICK_US RUN     compares what is put, and responses with their bounds
@@ -115,15 +117,17 @@ def read_run(text: str, program: traces.Program) -> list[Line]:
 
 # Requests from outside
 
-def driver(text: str, arrivals_text: str) -> dict[str, str]:
+def driver(text: str, arrivals_text: str, until: int, has_children: bool = False) -> dict[str, str]:
     """Ada units, name to text: a task for each unit that is requested, at the priority of its requests, and a main program."""
     program = traces.read_program(text)
     _, arrivals = read_arrivals(arrivals_text)
+    names = sorted({arrival.task for arrival in arrivals})
+    withs = ['with %s.%s;' % (program.design, name) for name in names] if has_children else ['with %s;' % program.design]
     spec = ['package hrt_arrivals is', '   pragma elaborate_body;']
-    body = ['with ada.real_time;', 'with hrt;', 'with %s;' % program.design, 'package body hrt_arrivals is', '   use type ada.real_time.time;',
+    body = ['with ada.real_time;', 'with hrt;', *withs, 'package body hrt_arrivals is', '   use type ada.real_time.time;',
             '   use type ada.real_time.time_span;',
             '   tick : constant ada.real_time.time_span := hrt.after (hrt.epoch, 1) - hrt.epoch;']
-    for name in sorted({arrival.task for arrival in arrivals}):
+    for name in names:
         task = program.tasks.get(name)
         if task is None or task.operation is None:
             raise Fault('no task of the text takes requests as %s' % name)
@@ -136,7 +140,9 @@ def driver(text: str, arrivals_text: str) -> dict[str, str]:
                 body += ['      hrt_next := hrt.epoch + %d * tick;' % arrival.time, '      delay until hrt_next;',
                          '      hrt_next := hrt.after (hrt_next, 0);', '      %s.%s.%s%s;' % (program.design, name, task.operation, value)]
         body += ['      loop', '         delay until ada.real_time.time_last;', '      end loop;', '   end hrt_of_%s;' % name]
-    main = ['with hrt_arrivals;', 'with %s;' % program.design, 'procedure hrt_run is', 'begin', '   null;', 'end hrt_run;']
+    # hrt_main names all objects, also those that are child packages.
+    main = ['with hrt;', 'with hrt_arrivals;', 'with hrt_host;', 'with hrt_main;', 'procedure hrt_run is', 'begin',
+            '   delay until hrt.after (hrt.epoch, %d);' % (until + 1), '   hrt_host.leave;', 'end hrt_run;']
     units = {'hrt_arrivals.ads': spec + ['end hrt_arrivals;'], 'hrt_arrivals.adb': body + ['end hrt_arrivals;'], 'hrt_run.adb': main}
     return {name: '\n'.join(lines) + '\n' for name, lines in units.items()}
 
@@ -333,9 +339,9 @@ def do(words: list[str]) -> int:
         sys.stdout.write(without_durations(load(words[1])))
     elif words[:1] == ['tick'] and len(words) == 2:
         print(tick_of(load(words[1])))
-    elif words[:1] == ['driver'] and len(words) == 4:
-        for name, unit in driver(load(words[1]), load(words[2])).items():
-            with open(os.path.join(words[3], name), 'w') as stream:
+    elif words[:1] == ['driver'] and (len(words) == 5 or words[5:] == ['children']):
+        for name, unit in driver(load(words[1]), load(words[2]), int(words[3]), len(words) == 6).items():
+            with open(os.path.join(words[4], name), 'w') as stream:
                 stream.write(unit)
     elif words[:1] == ['steps'] and len(words) == 4:
         return told(compare_steps(read_text(load(words[1])), load(words[2]), load(words[3])))

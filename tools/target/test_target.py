@@ -16,7 +16,9 @@ HERE = os.path.dirname(os.path.realpath(__file__))
 EXAMPLES = os.path.join(HERE, '..', '..', 'examples')
 sys.path.insert(0, HERE)
 import costed                   # noqa: E402
+import initramfs                # noqa: E402
 import target                   # noqa: E402
+import test_bodies              # noqa: E402
 import traces                   # noqa: E402
 
 HEAD = """-- design kinds
@@ -208,13 +210,18 @@ class Inputs(unittest.TestCase):
             target.read_text((HEAD + example('every_kind.ada')).replace('pragma priority (2)', 'pragma priority (3)'))
 
     def test_driver(self) -> None:
-        units = target.driver(HEAD + example('every_kind.ada'), ARRIVALS)
+        units = target.driver(HEAD + example('every_kind.ada'), ARRIVALS, 120)
         self.assertEqual(sorted(units), ['hrt_arrivals.adb', 'hrt_arrivals.ads', 'hrt_run.adb'])
         self.assertIn('   task hrt_of_button is\n      pragma priority (3);\n', units['hrt_arrivals.ads'])
         self.assertIn('      hrt_next := hrt.epoch + 21 * tick;\n      delay until hrt_next;\n      hrt_next := hrt.after (hrt_next, 0);\n'
                       '      kinds.button.press (7);\n', units['hrt_arrivals.adb'])
+        self.assertIn('with kinds;\n', units['hrt_arrivals.adb'])
+        children = target.driver(HEAD + example('every_kind.ada'), ARRIVALS, 120, True)
+        self.assertIn('with kinds.button;\n', children['hrt_arrivals.adb'])
+        self.assertNotIn('with kinds;\n', children['hrt_arrivals.adb'])
+        self.assertIn('   delay until hrt.after (hrt.epoch, 121);\n   hrt_host.leave;\n', units['hrt_run.adb'])
         with self.assertRaises(traces.Fault):
-            target.driver(HEAD + example('every_kind.ada'), 'UNTIL 9; AT 3 sampler;')
+            target.driver(HEAD + example('every_kind.ada'), 'UNTIL 9; AT 3 sampler;', 9)
 
     def test_costs_are_paid_before_what_they_are_for(self) -> None:
         lines = costed.Coster(example('every_kind.ada')).costed().split('\n')
@@ -245,6 +252,19 @@ class Inputs(unittest.TestCase):
             self.assertEqual('\n'.join(line for line in lines if 'hrt_model' not in line), example(name))
 
 
+class Places(unittest.TestCase):
+    def test_each_statement_of_work_has_a_place(self) -> None:
+        body = test_bodies.body_of('stepped')
+        text, count = test_bodies.with_places(body)
+        lines = text.split('\n')
+        self.assertEqual([line for line in lines if 'hrt_forced' not in line], body.split('\n'))
+        self.assertEqual([line for line in lines[1:] if 'hrt_forced' in line], [test_bodies.CALL % place for place in range(count)])
+        inside = lines[lines.index('   procedure work (ticks : positive) is'):lines.index('   end work;')]
+        self.assertEqual(sum('hrt_forced' in line for line in inside), count)
+        for statement in ('   begin', '         now := ada.real_time.clock;', '         current := calls;', '         else'):
+            self.assertIn('hrt_forced', inside[inside.index(statement) + 1])
+
+
 class Words(unittest.TestCase):
     def run_target(self, *words: Any) -> subprocess.CompletedProcess[str]:
         return subprocess.run([sys.executable, os.path.join(HERE, 'target.py'), *words], capture_output=True, text=True)
@@ -265,8 +285,38 @@ class Words(unittest.TestCase):
     def run_script(self, name: str, *words: Any, **more: Any) -> subprocess.CompletedProcess[str]:
         return subprocess.run(['/bin/sh', os.path.join(HERE, name), *words], capture_output=True, text=True, **more)
 
+    def test_what_is_missing_is_named(self) -> None:
+        tools = ['dirname', 'sed', 'gnatmake', 'gnatchop', 'chrt', 'taskset']
+        arm = 'aarch64-linux-gnu'
+        rows: tuple[tuple[list[str], list[str], int, str], ...] = (
+            ([], ['-x', 'riscv64-linux-gnu'], 3,
+             'riscv64-linux-gnu-gnatmake is missing: install GNAT (Debian: apt-get install gnat-12-riscv64-linux-gnu)'),
+            ([arm + '-gnatmake'], ['-x', arm], 4, 'qemu-aarch64 is missing (Debian: apt-get install qemu-user)'),
+            ([], ['-m', 'nowhere'], 4, 'qemu-system-x86_64 is missing (Debian: apt-get install qemu-system-x86)'),
+            ([arm + '-gnatmake'], ['-x', arm, '-m', 'nowhere'], 4, 'qemu-system-aarch64 is missing (Debian: apt-get install qemu-system-arm)'),
+            (['qemu-system-x86_64'], ['-m', 'nowhere'], 4, 'no kernel can be read from nowhere'),
+            (['s390x-linux-gnu-gnatmake'], ['-x', 's390x-linux-gnu', '-m', 'nowhere'], 4, 'no machine is known for s390x-linux-gnu'))
+        for more, options, status, wanted in rows:
+            with self.subTest(options=options), tempfile.TemporaryDirectory() as room:
+                for tool in tools + more:
+                    os.symlink(str(shutil.which(tool if tool in ('dirname', 'sed') else 'true')), os.path.join(room, tool))
+                answer = self.run_script('run.sh', *options, 'a.design', 'a.arrivals', env={'PATH': room})
+                self.assertEqual((answer.returncode, answer.stdout, answer.stderr), (status, '', wanted + '\n'))
+
+    def test_the_archive_of_a_machine(self) -> None:
+        """A kernel unpacks its files: each head has the lengths of the name and of the content, and starts at a multiple of four."""
+        data, files, place = initramfs.archive(b'12345'), [], 0
+        while place < len(data):
+            self.assertEqual((data[place:place + 6], place % 4), (b'070701', 0))
+            fields = [int(data[place + 6 + 8 * i:place + 14 + 8 * i], 16) for i in range(13)]
+            name = data[place + 110:place + 110 + fields[11] - 1].decode()
+            start = (place + 110 + fields[11] + 3) // 4 * 4
+            files.append((name, fields[1], data[start:start + fields[6]]))
+            place = (start + fields[6] + 3) // 4 * 4
+        self.assertEqual(files, [('dev', 0o040755, b''), ('dev/console', 0o020600, b''), ('hrt_run', 0o100755, b'12345'), ('TRAILER!!!', 0, b'')])
+
     def test_usage(self) -> None:
-        for words in ((), ('-x', 'a', 'b'), ('a', 'b', 'c')):
+        for words in ((), ('-z', 'a', 'b'), ('a', 'b', 'c')):
             answer = self.run_script('run.sh', *words)
             self.assertEqual((answer.returncode, answer.stdout), (2, ''))
             self.assertIn('run.sh [-s]', answer.stderr)
@@ -275,10 +325,13 @@ class Words(unittest.TestCase):
     def test_a_host_without_gnat(self) -> None:
         with tempfile.TemporaryDirectory() as room:
             os.symlink(str(shutil.which('dirname')), os.path.join(room, 'dirname'))
+            missing = (3, '', 'gnatmake is missing: install GNAT (Debian: apt-get install gnat)\n')
             for name, words in (('run.sh', ('a.design', 'a.arrivals')), ('measure.sh', ())):
                 answer = self.run_script(name, *words, env={'PATH': room})
-                self.assertEqual((answer.returncode, answer.stdout, answer.stderr),
-                                 (3, '', 'gnatmake is missing: install GNAT (Debian: apt-get install gnat)\n'))
+                self.assertEqual((answer.returncode, answer.stdout, answer.stderr), missing)
+            os.symlink('/bin/sh', os.path.join(room, 'sh'))
+            answer = subprocess.run([sys.executable, os.path.join(HERE, 'test_bodies.py')], capture_output=True, text=True, env={'PATH': room})
+            self.assertEqual((answer.returncode, answer.stdout, answer.stderr), missing)
 
 
 if __name__ == '__main__':

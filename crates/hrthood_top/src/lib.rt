@@ -4,7 +4,7 @@
 //! `ada_read` and `arrivals_read` and the processor of `ceil_runtime` for a replay, and on `hood_io` for files and streams. `run` carries
 //! its promise, and so does `run_plain`, which reads the words without the kit's parser; by `generated_text_replays` the promise holds
 //! over two runs, of which the second never sees the design, and by `refused_exactly_where` a command has one cause of refusal at most,
-//! and none where all of it can be written. A verb is one module of definitions and one of code (`docs/VERBS.md`).
+//! and none where all of it can be written. A verb is one module of definitions and one of code (`docs/CHANGING.md`).
 #![tactic(auto)]
 
 mod accepts;

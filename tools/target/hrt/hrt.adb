@@ -46,9 +46,6 @@ package body hrt is
 
    function epoch return moment is (zero);
 
-   function after (start : moment; ticks : natural) return moment is
-     (start + ticks * tick);
-
    --  One line: the seconds since the epoch, what happened, the priority of the
    --  calling task, by which it is known, and perhaps more. The quotient of two
    --  time spans is an integer, so this is no count of microseconds: it would
@@ -59,6 +56,17 @@ package body hrt is
         (duration'image (ada.real_time.to_duration (ada.real_time.clock - zero))
          & " " & what & integer'image (hrt_host.priority) & more & ascii.lf);
    end tell;
+
+   --  A task calls this at once when it wakes up, with the time of its release.
+   --  If no task was seen to run since then, the host woke this task late.
+   function after (start : moment; ticks : natural) return moment is
+      now : constant moment := ada.real_time.clock;
+   begin
+      if seen < start and then now - start > tick then
+         tell ("away", duration'image (ada.real_time.to_duration (now - start)));
+      end if;
+      return start + ticks * tick;
+   end after;
 
    procedure work (ticks : positive) is
       goal : constant ada.execution_time.cpu_time :=

@@ -89,20 +89,26 @@ package body hrt is
 
    procedure work (ticks : positive) is
       left : integer := ticks;
-      now : moment := ada.real_time.clock;
-      passed : integer := moments (if is_owed then owed else now);
+      now : moment;
+      passed : integer;
       known, current : number;
    begin
-      is_owed := false;
-      seen := now;
+      --  The clock is read after the count. So a task that preempts between the
+      --  two changes the count, and its ticks are not counted to this task.
       calls := calls + 1;
       known := calls;
+      now := ada.real_time.clock;
+      passed := moments (if is_owed then owed else now);
+      is_owed := false;
+      seen := now;
       while left > 0 loop
          now := ada.real_time.clock;
          current := calls;
          if current = known then
             left := left - (moments (now) - passed);
             look (now, seen);
+         else
+            now := ada.real_time.clock;
          end if;
          passed := moments (now);
          known := current;

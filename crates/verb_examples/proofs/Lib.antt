@@ -10,6 +10,7 @@ mod SearchExamples
 mod MakeExamples
 mod DeliverExamples
 mod VerbExamples
+mod ExplainExamples
 mod EmptyExamples
 mod AcceptsExamples
 mod BackgroundExamples

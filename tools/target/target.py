@@ -5,7 +5,7 @@
     target.py tick DESIGN                           microseconds of a tick of a design of version 2, else 1000
     target.py driver TEXT ARRIVALS UNTIL FOLDER [children]
                                                     writes the package hrt_arrivals, whose tasks make the requests, and the program hrt_run,
-                                                    which ends one tick after UNTIL; with `children`, objects are child packages
+                                                    which ends 100 ms after UNTIL; with `children`, objects are child packages
     target.py steps TEXT TRACE RUN                  compares each line of a stepped run with the replay
     target.py log TEXT TRACE RUN                    writes a stepped run as a trace for `hrthood accepts`
     target.py responses TEXT TRACE ARRIVALS TICK_US RUN     compares what is put, and responses with their bounds
@@ -141,8 +141,10 @@ def driver(text: str, arrivals_text: str, until: int, has_children: bool = False
                          '      hrt_next := hrt.after (hrt_next, 0);', '      %s.%s.%s%s;' % (program.design, name, task.operation, value)]
         body += ['      loop', '         delay until ada.real_time.time_last;', '      end loop;', '   end hrt_of_%s;' % name]
     # hrt_main names all objects, also those that are child packages.
-    main = ['with hrt;', 'with hrt_arrivals;', 'with hrt_host;', 'with hrt_main;', 'procedure hrt_run is', 'begin',
-            '   delay until hrt.after (hrt.epoch, %d);' % (until + 1), '   hrt_host.leave;', 'end hrt_run;']
+    # The last line may take longer than a tick, if it is that of an exception.
+    main = ['with ada.real_time;', 'with hrt;', 'with hrt_arrivals;', 'with hrt_host;', 'with hrt_main;', 'procedure hrt_run is',
+            '   use type ada.real_time.time;', 'begin',
+            '   delay until hrt.after (hrt.epoch, %d) + ada.real_time.milliseconds (100);' % until, '   hrt_host.leave;', 'end hrt_run;']
     units = {'hrt_arrivals.ads': spec + ['end hrt_arrivals;'], 'hrt_arrivals.adb': body + ['end hrt_arrivals;'], 'hrt_run.adb': main}
     return {name: '\n'.join(lines) + '\n' for name, lines in units.items()}
 

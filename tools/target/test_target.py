@@ -219,7 +219,7 @@ class Inputs(unittest.TestCase):
         children = target.driver(HEAD + example('every_kind.ada'), ARRIVALS, 120, True)
         self.assertIn('with kinds.button;\n', children['hrt_arrivals.adb'])
         self.assertNotIn('with kinds;\n', children['hrt_arrivals.adb'])
-        self.assertIn('   delay until hrt.after (hrt.epoch, 121);\n   hrt_host.leave;\n', units['hrt_run.adb'])
+        self.assertIn('   delay until hrt.after (hrt.epoch, 120) + ada.real_time.milliseconds (100);\n   hrt_host.leave;\n', units['hrt_run.adb'])
         with self.assertRaises(traces.Fault):
             target.driver(HEAD + example('every_kind.ada'), 'UNTIL 9; AT 3 sampler;', 9)
 

@@ -1,10 +1,9 @@
 -- That all threads are within their limits exactly where a design has bounds.
-use Rattle.std.proofs.Common.{◌≡◌, ◌↔◌, ℕ, zero, suc, ◌+◌, ◌≤◌, List, [], ◌∷◌, length, map, Option, Some, None, refl, sym, ap, subst, ◌∙◌, arith}
+use Rattle.std.proofs.Common.{◌≡◌, ℕ, zero, suc, ◌+◌, ◌≤◌, List, [], ◌∷◌, map, Some, None, refl, sym, subst, ◌∙◌}
 use Rattle.std.specs.Prelude.{slice_get}
 use Rattle.std.specs.List.{AllZip}
 use Rattle.std.proofs.lemmas.List.{length-map}
 use Rattle.std.proofs.lemmas.Option.{none-some, same_Some}
-use Rattle.ods_tree.specs.Flats.{Flat}
 use Rattle.rt_response.specs.declared.rows.ThreadRow.{ThreadRow}
 use Rattle.rt_response.specs.declared.rows.Bound.{Bound}
 use Rattle.rt_response.specs.Response.{IsWithinLimits}
@@ -14,8 +13,7 @@ use Rattle.late_response.specs.declared.reach.Reach.{Reach}
 use Rattle.late_response.specs.declared.reach.Reach.TheVariants.{Solved, Beyond, Behind}
 use Rattle.late_response.specs.Late.{AreTold, IsSolved, IsTold}
 use Rattle.late_response.specs.Laws.{AreSolved, SolvedInTimeIsLeast}
-use Rattle.explanation.specs.declared.reasons.Late.{Late}
-use Rattle.explanation.specs.Findings.{IsFound, solved_of}
+use Rattle.explanation.specs.Findings.{solved_of}
 use Rattle.law_explanations.specs.Laws.{IsKept, LateIsMissed}
 
 -- least bounds are within the limits

@@ -1,8 +1,7 @@
 -- What is told of threads, by their places: it is told of each row of the table, in its order.
-use Rattle.std.proofs.Common.{◌≡◌, ℕ, zero, suc, ◌<◌, ◌≤◌, List, [], ◌∷◌, length, map, zip, take, Option, Some, None, refl, sym, ap, ◌∙◌, arith}
-use Rattle.std.specs.Prelude.{filter_map, option_and_then, option_map, slice_get}
+use Rattle.std.proofs.Common.{◌≡◌, ℕ, suc, ◌<◌, List, [], ◌∷◌, length, map, zip, refl, sym, ap, ◌∙◌, arith}
+use Rattle.std.specs.Prelude.{filter_map}
 use Rattle.std.proofs.lemmas.List.{length-map}
-use Rattle.std.proofs.lemmas.Option.{none-some, same_Some}
 use Rattle.seq_tree.specs.Lists.{Each}
 use Rattle.ods_tree.specs.Flats.{Flat}
 use Rattle.rt_response.specs.declared.rows.ThreadRow.{ThreadRow}
@@ -11,10 +10,8 @@ use Rattle.analysis.specs.Tables.{downwards, table}
 use Rattle.law_designs.proofs.Shared.TableRanges.{count-down}
 use Rattle.law_designs.proofs.Shared.TabledPrograms.{has-at}
 use Rattle.law_orders.proofs.Shared.DeadlineOrders.{order-count}
-use Rattle.law_calls.proofs.Shared.Places.{mapped-at}
 use Rattle.design_bounds.proofs.Shared.TablePlaces.{places-stand, rows-long}
 use Rattle.late_response.specs.declared.reach.Reach.{Reach}
-use Rattle.explanation.specs.declared.reasons.Reasons.{Reasons}
 use Rattle.explanation.specs.Threads.{Known, causes, reasons_at, reasons_of}
 
 -- a fact of each place

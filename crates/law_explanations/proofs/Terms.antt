@@ -1,26 +1,25 @@
 -- That the terms of a thread whose bound is known add up to it.
-use Rattle.std.proofs.Common.{◌≡◌, ℕ, zero, suc, ◌+◌, ◌*◌, ◌<◌, ◌≤◌, List, [], ◌∷◌, length, map, zip, take, fold, Option, Some, None}
+use Rattle.std.proofs.Common.{◌≡◌, ℕ, zero, suc, ◌+◌, ◌<◌, ◌≤◌, List, [], ◌∷◌, length, map, take, fold, Option, Some, None}
 use Rattle.std.proofs.Common.{refl, sym, ap, subst, ◌∙◌, arith}
-use Rattle.std.proofs.Common.{◌⊎◌, inl, inr, le_refl}
+use Rattle.std.proofs.Common.{inl, inr, le_refl}
 use Rattle.std.specs.Prelude.{slice_get, sum_by}
 use Rattle.std.specs.List.{AllZip}
 use Rattle.std.proofs.lemmas.List.{length-map}
-use Rattle.std.proofs.lemmas.Option.{none-some, same_Some, slice_get_within}
+use Rattle.std.proofs.lemmas.Option.{none-some, same_Some}
 use Rattle.ods_tree.specs.Flats.{Flat}
 use Rattle.rt_response.specs.declared.rows.ThreadRow.{ThreadRow}
 use Rattle.rt_response.specs.declared.rows.Bound.{Bound}
-use Rattle.rt_response.specs.Response.{Entry, interference, response_after, IsLeastVector}
+use Rattle.rt_response.specs.Response.{interference}
 use Rattle.rt_response.specs.Rounds.{round}
 use Rattle.rt_response.specs.Tables.{IsRow, IsStarter, IsTable}
 use Rattle.rt_response.specs.Tables as tables
-use Rattle.analysis.specs.Sound.{IsSound}
 use Rattle.analysis.specs.Tables.{table}
 use Rattle.law_designs.proofs.Shared.TableRanges.{sound-table}
 use Rattle.law_designs.proofs.Shared.TabledPrograms.{has-at}
 use Rattle.law_calls.proofs.Shared.Places.{map-at, mapped-at}
 use Rattle.late_response.specs.declared.reach.Reach.{Reach}
 use Rattle.late_response.specs.declared.reach.Reach.TheVariants.{Solved, Beyond, Behind}
-use Rattle.late_response.specs.Late.{AreTold, DependsOn, IsBeyond, IsBehind, IsFar, IsNear, IsOver, IsSolved, IsTold, IsWithin, Needs, OfBoth, itself, through}
+use Rattle.late_response.specs.Late.{AreTold, DependsOn, IsFar, IsNear, IsOver, IsSolved, IsTold, IsWithin, Needs, OfBoth, itself, through}
 use Rattle.late_response.specs.Laws.{AreAbove, AreSolved, HasJitter, LeastIsSolved, SolvedMeetsItsEquation}
 use Rattle.explanation.specs.declared.reasons.Late.{Late}
 use Rattle.explanation.specs.declared.reasons.Reasons.{Reasons}
@@ -29,7 +28,7 @@ use Rattle.explanation.specs.Delays.{delay_by, entry_of}
 use Rattle.explanation.specs.Findings.{IsFound, solved_of}
 use Rattle.explanation.specs.Threads.{reasons_of}
 use Rattle.explanation.specs.Values.{known_jitter, value_in, value_of}
-use Rattle.law_explanations.specs.Laws.{AddsUp, TermsAddUp}
+use Rattle.law_explanations.specs.Laws.{TermsAddUp}
 use Rattle.law_explanations.proofs.Placed.{told-reaches, told-rows}
 
 -- a row is not within and over in one round

@@ -1,6 +1,6 @@
 -- Examples: what is told of threads, the lines of `explain` in each case, and what the verb makes of a design. Each definition holds of a case,
 -- and not without one of its parts.
-use Rattle.std.specs.Prelude.{◌≡◌, ℕ, ◌≤◌, List, [], ◌∷◌, ◌++◌, map, Option, Some, None, codes, decimal, refl}
+use Rattle.std.specs.Prelude.{◌≡◌, ℕ, List, [], ◌∷◌, ◌++◌, map, Option, Some, None, codes, decimal, refl}
 use Rattle.std.proofs.Common.{arith}
 use Rattle.seq_tree.specs.Statements.{Work}
 use Rattle.ods_tree.specs.Designs.{Design}
@@ -27,14 +27,14 @@ use Rattle.explanation.specs.Delays.{delay_by}
 use Rattle.explanation.specs.Explanations.{IsExplanation}
 use Rattle.explanation.specs.Findings.{IsFound, solved_of}
 use Rattle.explanation.specs.Threads.{HasPeriod, blocker_of, chains, reasons_of}
-use Rattle.explanation.specs.Values.{known_jitter, value_at}
+use Rattle.explanation.specs.Values.{known_jitter}
 use Rattle.bridge.specs.Taking.{IsTakenAs, RefusesTaking}
 use Rattle.bridge.specs.declared.taking.Untaken.{Untaken}
 use Rattle.hrthood_top.specs.declared.file_kind.FileKind.TheVariants as kind
 use Rattle.hrthood_top.specs.Analyses.{labelled}
 use Rattle.hrthood_top.specs.Checks.{CanCheck, check_line}
 use Rattle.hrthood_top.specs.Explanations.{IsToldOf, explained, explains, reach_lines, chain_line, late_line, name_at}
-use Rattle.hrthood_top.specs.Files.{File, Texts}
+use Rattle.hrthood_top.specs.Files.{Texts}
 
 -- WHAT IS TOLD OF A THREAD
 

@@ -7,18 +7,18 @@ COSTS = "COSTS ASSIGN = 1; TEST = 1; TURN = 1; CALL = 1; NULL = 1; PUT = 1; FINI
 MOST_BYTES, OPERATIONS, OBJECTS, THREADS, CHAIN = 1048576, 14000, 40, 30, 64
 
 
-def passive(name, ops, blocks, needs=""):
+def passive(name: str, ops: list[str], blocks: list[str], needs: str = "") -> str:
     provides = " ".join(f"{op};" for op in ops)
     bodies = "\n".join(f"OPERATION {op} IS BEGIN {block} END {op};" for op, block in zip(ops, blocks))
     return f"OBJECT {name} IS PASSIVE PROVIDES {provides}{needs}\n{bodies}\nEND {name};\n"
 
 
-def cyclic(name, period, block, needs=""):
+def cyclic(name: str, period: int, block: str, needs: str = "") -> str:
     return (f"OBJECT {name} IS CYCLIC ATTRIBUTES PERIOD = {period}; DEADLINE = {period}; THREAD_BUDGET = {period};{needs}\n"
             f"THREAD {block} END THREAD; END {name};\n")
 
 
-def large():
+def large() -> str:
     chain = [passive(f"c{k}", ["f"], [f"c{k + 1}.f;" if k < CHAIN else "null;"], f" REQUIRES c{k + 1}.f;" if k < CHAIN else "")
              for k in range(1, CHAIN + 1)]
     each = (OPERATIONS - CHAIN) // OBJECTS

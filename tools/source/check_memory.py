@@ -1,20 +1,24 @@
 #!/usr/bin/env python3
 """check_memory.py [FOLDER]: checks that code answers `NoMemory` where an allocation failed, and nowhere else.
 
-An answer of `NoMemory` is a way out that no clause limits, so a limit that is told so would be proved whatever it is. It comes from a failed allocation
-by `?` and `From<AllocError>`. This script lists every other place of crates/*/src where code makes one: the places in ALLOWED, each with its
+An answer of `NoMemory` is a way out that no clause limits, so a limit that is told so would be proved whatever it is. It comes from a failed
+allocation by `?` and `From<AllocError>`. This script lists every other place of crates/*/src where code makes one: the places in ALLOWED, each with its
 reason, and any new one. Exit status 1 where a place is new or an allowed one is not there.
 
 A place is none where code hands an answer on: a match arm whose pattern names `NoMemory`, and the bodies of `impl From<AllocError>`,
 `impl From<AllocFailed<..>>` and `impl From<NoMemory>`. Declarations, types, clauses, comments and tests are no places."""
-import pathlib, re, sys
+import pathlib
+import re
+import sys
+
+Place = tuple[str, str]
 
 # Places that make the answer without a `?`, by file and line of code, each with its reason.
 FAILED = "an allocation failed here, and the error is of another type"
 HANDED = "hands on the answer of what was called"
 LIMIT = "a limit of numbers of 32 bits, which no text within its limit of bytes reaches"
 NEVER = "never comes, by the sizes; not proved"
-ALLOWED = {
+ALLOWED: dict[Place, str] = {
     ("crates/background/src/delivery.rt", "BackgroundRefusal::NoMemory"): HANDED,
     ("crates/background/src/making.rt", "Err(_) => BackgroundRefusal::NoMemory,"): FAILED,
     ("crates/bridge/src/taking.rt", "return Err(Halt::NoMemory);"): HANDED,
@@ -45,7 +49,7 @@ ALLOWED = {
     ("crates/trace_scripts/src/progress.rt", "return Err(NoMemory);"): NEVER,
 }
 # How often a line of code is such a place, where it is more than once.
-COUNTS = {
+COUNTS: dict[Place, int] = {
     ("crates/hood_io/src/mem_shelf.rt", "return Fetched::NoMemory;"): 3,
     ("crates/trace_read/src/table.rt", "return Err(NoMemory);"): 2,
 }
@@ -55,12 +59,12 @@ BLOCKS = re.compile(r"\b(?:requires|ensures)\*?(?:\s+\w+)?\s*\{|\bghost\b[^;={}]
 WORD = re.compile(r"\bNoMemory\b")
 
 
-def blank(text, start, end):
+def blank(text: str, start: int, end: int) -> str:
     """Returns the text with blanks in the place of a part of it; lines stay where they are."""
     return text[:start] + re.sub(r"[^\n]", " ", text[start:end]) + text[end:]
 
 
-def closing(text, at):
+def closing(text: str, at: int) -> int:
     """Returns the place behind the brace that closes the one at `at`."""
     depth = 0
     for place in range(at, len(text)):
@@ -73,10 +77,10 @@ def closing(text, at):
     return len(text)
 
 
-def code_of(text):
+def code_of(text: str) -> str:
     """Returns the code of a source without comments, strings, clauses, declarations and the conversions of failed allocations."""
-    for pattern in (r"//[^\n]*", r'b?"(?:\\.|[^"\\])*"'):
-        text = re.sub(pattern, lambda found: " " * len(found.group()), text)
+    for marks in (r"//[^\n]*", r'b?"(?:\\.|[^"\\])*"'):
+        text = re.sub(marks, lambda found: " " * len(found.group()), text)
     for pattern in (BLOCKS, HANDS_ON):
         at = 0
         while found := pattern.search(text, at):
@@ -87,19 +91,19 @@ def code_of(text):
     return re.sub(names, lambda found: re.sub(r"[^\n]", " ", found.group()), text)
 
 
-def is_type(text, start, end):
+def is_type(text: str, start: int, end: int) -> bool:
     """Returns whether the word at this place is a type: an argument of one, or that of a parameter."""
     before, behind = text[:start].rstrip(), text[end:].lstrip()
     before = re.sub(r"(?:\w+::)+$", "", before).rstrip()
     return behind.startswith(">") and before.endswith((",", "<")) or before.endswith("<") or bool(re.search(r"[\w)]\s*:$", before))
 
 
-def is_pattern(text, end):
+def is_pattern(text: str, end: int) -> bool:
     """Returns whether the word that ends here stands in a pattern: of a match arm, or of a `let`."""
     return bool(re.match(r"[^;{}]*?(?:=>|(?<![=<>!+\-*/])=(?![=>]))", text[end:])) and not re.match(r"[\s)]*(?:[,;}]|\?)", text[end:])
 
 
-def arm_of(text, start):
+def arm_of(text: str, start: int) -> str:
     """Returns the pattern of the match arm in whose answer this place stands, or ''."""
     depth, comma = 0, False
     for place in range(start - 1, 0, -1):
@@ -120,7 +124,7 @@ def arm_of(text, start):
     return ""
 
 
-def places(text):
+def places(text: str) -> list[tuple[int, str]]:
     """Returns the lines, from 1, on which code makes the answer, each with its code."""
     code, lines = code_of(text), text.split("\n")
     found = []
@@ -133,9 +137,11 @@ def places(text):
     return found
 
 
-def judged(top, allowed, counts):
+def judged(top: pathlib.Path, allowed: dict[Place, str], counts: dict[Place, int]) -> tuple[list[str], list[str], list[str]]:
     """Returns what is allowed, what is new and what is gone below a folder, as lines to tell."""
-    known, new, seen = [], [], {}
+    known: list[str] = []
+    new: list[str] = []
+    seen: dict[Place, int] = {}
     for path in sorted(top.glob("crates/*/src/**/*.rt")):
         name = str(path.relative_to(top))
         if "tests" in path.relative_to(top).parts or path.name == "tests.rt":
@@ -150,7 +156,8 @@ def judged(top, allowed, counts):
     return known, new, gone
 
 
-def main(top):
+def main(top: pathlib.Path) -> int:
+    """Prints what is allowed and what is not, and returns the exit status."""
     known, new, gone = judged(top, ALLOWED, COUNTS)
     for line in known:
         print(line)

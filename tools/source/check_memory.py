@@ -2,8 +2,8 @@
 """check_memory.py [FOLDER]: checks that code answers `NoMemory` where an allocation failed, and nowhere else.
 
 An answer of `NoMemory` is a way out that no clause limits, so a limit that is told so would be proved whatever it is. It comes from a failed
-allocation by `?` and `From<AllocError>`. This script lists every other place of crates/*/src where code makes one: the places in ALLOWED, each with its
-reason, and any new one. Exit status 1 where a place is new or an allowed one is not there.
+allocation by `?` and `From<AllocError>`. This script lists every other place of crates/*/src where code makes one: the places in ALLOWED, each with
+its reason, and any new one. Exit status 1 where a place is new or an allowed one is not there.
 
 A place is none where code hands an answer on: a match arm whose pattern names `NoMemory`, and the bodies of `impl From<AllocError>`,
 `impl From<AllocFailed<..>>` and `impl From<NoMemory>`. Declarations, types, clauses, comments and tests are no places."""

@@ -30,9 +30,9 @@ lint() {
     fi
 }
 
-# The files of the repository that fit a pattern.
+# The files that git tracks here and that fit a pattern: what lands, and nothing that lies beside it.
 files() {
-    git ls-files --cached --others --exclude-standard | grep -E "$1" | sort -u
+    git ls-files | grep -E "$1" | sort -u
 }
 
 mapfile -t shell < <(files '\.sh$|^hrthood$|^\.ci/run$|\.bash$')

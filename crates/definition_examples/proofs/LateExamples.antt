@@ -9,7 +9,7 @@ use Rattle.late_response.specs.declared.reach.Reach.{Reach}
 use Rattle.late_response.specs.declared.reach.Reach.TheVariants.{Solved, Beyond, Behind}
 use Rattle.late_response.specs.Late.{IsNear, IsFar, OfBoth, IsWithin, IsOver, Needs, DependsOn, itself, through, IsFollowed, IsSolved, IsBeyond}
 use Rattle.late_response.specs.Late.{IsBehind, IsTold, AreTold}
-use Rattle.late_response.specs.Laws.{HasJitter, AreAbove, AreSolved, AreSame, told_sum, told_jitter, told_entry, IsInTime, solved_with}
+use Rattle.late_response.specs.Laws.{HasJitter, AreAbove, AreSolved, told_sum, told_jitter, told_entry, IsInTime, solved_with}
 use Rattle.late_response.specs.Utilisation.{utilisation, IsPerMille}
 use Rattle.late_response.proofs.Shared.LateLaws.{told-once}
 use Rattle.late_response.proofs.Shared.Places.{some-same}
@@ -234,6 +234,7 @@ third_behind = record {
   round = 3;
   needs = needs_own;
   lost = (1, itself, over_at);
+  first = λ k s less needs. absurd (omega (arith, less, (only_needed k s needs).0));
   within = (lit≤ tt, lit≤ tt);
   followed = λ m less. low_followed 2 m less (third_within m less);
 }
@@ -243,6 +244,7 @@ fourth_behind = record {
   round = 3;
   needs = needs_above;
   lost = (1, itself, over_at);
+  first = λ k s less needs. absurd (omega (arith, less, (only_needed k s needs).0));
   within = (lit≤ tt, lit≤ tt);
   followed = λ m less. low_followed 3 m less (fourth_within m less);
 }
@@ -262,7 +264,7 @@ own_given_up : IsTold own 2 (Beyond 0 0 20)
 own_given_up = record { told = refl; over = inl (lit≤ tt); followed = λ m less. absurd (omega (arith, less)) }
 
 own_not_behind : IsBehind own 2 1 → ⊥
-own_not_behind h = told-once own 2 (Behind 1) (Beyond 0 0 20) h own_given_up
+own_not_behind h = (let e = told-once own 2 (Behind 1) (Beyond 0 0 20) h own_given_up in cc)
 
 -- A ROW WHOSE ROUNDS REST THOUGH ITS STARTER IS GIVEN UP, WHICH ALONE IS LATE: IT IS TOLD TO BE BEHIND, SINCE A SOLUTION IS FOLLOWED ONLY SO FAR
 abbrev first_late : List ThreadRow
@@ -275,6 +277,13 @@ second_rests = refl
 second_needs : Needs first_late 1 0
 second_needs = record { place = 1; row = row 1000 1 (Some 0); up = lit≤ tt; is = refl; started = refl }
 
+first_needs_none : (k s : ℕ) → k < 1 → Needs first_late k s → ⊥
+first_needs_none k s less needs = by needs.place needs.row needs.up needs.is needs.started
+  where
+    by : (place : ℕ) (r : ThreadRow) → place ≤ k → slice_get first_late place ≡ Some r → r.starter ≡ Some s → ⊥
+    by zero r up e f = cc
+    by (suc p) r up e f = omega (arith, up, less)
+
 second_not_solved : IsSolved first_late 1 (bound 20 21) → ⊥
 second_not_solved h = omega (arith, (h.followed 0 0 (through second_needs itself)).0)
 
@@ -283,9 +292,43 @@ second_behind = record {
   round = 0;
   needs = second_needs;
   lost = (0, itself, inl (lit≤ tt));
+  first = λ k s less needs. absurd (first_needs_none k s less needs);
   within = (lit≤ tt, lit≤ tt);
   followed = λ m less. absurd (omega (arith, less));
 }
+
+-- TWO STARTERS ARE OVER TEN TIMES THEIR LIMITS IN ONE ROUND: A ROW THAT NEEDS BOTH IS TOLD TO BE BEHIND THE FIRST
+abbrev late_row : ThreadRow
+late_row = record { period = 1000; deadline = 1; jitter = 0; cost = 20; block = 0; starter = None }
+
+abbrev two_late : List ThreadRow
+two_late = late_row ∷ late_row ∷ row 1000 1 (Some 0) ∷ row 1000 1 (Some 1) ∷ []
+
+two_need_none : (k s : ℕ) → k < 2 → Needs two_late k s → ⊥
+two_need_none k s less needs = by needs.place needs.row needs.up needs.is needs.started
+  where
+    by : (place : ℕ) (r : ThreadRow) → place ≤ k → slice_get two_late place ≡ Some r → r.starter ≡ Some s → ⊥
+    by zero r up e f = cc
+    by (suc zero) r up e f = cc
+    by (suc (suc p)) r up e f = omega (arith, up, less)
+
+behind_the_first : IsTold two_late 3 (Behind 0)
+behind_the_first = record {
+  round = 0;
+  needs = record { place = 2; row = row 1000 1 (Some 0); up = lit≤ tt; is = refl; started = refl };
+  lost = (0, itself, inl (lit≤ tt));
+  first = λ k s less needs. absurd (two_need_none k s less needs);
+  within = (lit≤ tt, lit≤ tt);
+  followed = λ m less. absurd (omega (arith, less));
+}
+
+abbrev starter_in : Reach → ℕ
+starter_in (Solved jitter response) = 9
+starter_in (Beyond round jitter response) = 9
+starter_in (Behind starter) = starter
+
+not_behind_the_second : IsBehind two_late 3 1 → ⊥
+not_behind_the_second h = (let e = ap starter_in (told-once two_late 3 (Behind 1) (Behind 0) h behind_the_first) in omega (arith, e))
 
 -- A TABLE IN TIME: A ROW WHOSE STARTER IS SOLVED IS NOT BEHIND IT
 abbrev fine : List ThreadRow
@@ -329,7 +372,7 @@ fine_solved i b h e = record {
 }
 
 fine_not_behind : IsBehind fine 1 0 → ⊥
-fine_not_behind h = told-once fine 1 (Behind 0) (Solved 2 3) h (fine_solved 1 (bound 2 3) (lit≤ tt) refl)
+fine_not_behind h = (let e = told-once fine 1 (Behind 0) (Solved 2 3) h (fine_solved 1 (bound 2 3) (lit≤ tt) refl) in cc)
 
 all_told : AreTold fine (Solved 0 2 ∷ Solved 2 3 ∷ [])
 all_told = record { long = refl; each = each }
@@ -398,19 +441,6 @@ given_up_is_late h = h
 
 behind_is_late : IsInTime short (Behind 0) → ⊥
 behind_is_late h = h
-
--- THE SAME IS TOLD
-same_solution : AreSame (Solved 2 3) (Solved 2 3)
-same_solution = refl
-
-other_solution : AreSame (Solved 2 3) (Solved 2 4) → ⊥
-other_solution h = cc
-
-other_round : AreSame (Beyond 3 0 40) (Beyond 4 0 40) → ⊥
-other_round h = cc
-
-other_starter : AreSame (Behind 1) (Behind 2)
-other_starter = tt
 
 -- UTILISATION
 -- 3/7 + 3/12 + 6/20 is 1644/1680

@@ -131,5 +131,6 @@ acceptances-exact design arrivals trace = record {
   one = λ a b same r q h k. one_refusal (b Design) (b Arrivals) (b Trace) r q (rw (← same.0, ← same.1.0, ← same.1.1.0) h) k;
   able = λ a b same w r h. not_refused (b Design) (b Arrivals) (b Trace) (rw (← same.0, ← same.1.0, ← same.1.1.0) w) r h;
   made = λ a written w. record { taken_as = w.0; taken = w.1; lines = w.2.0; judged = w.2.1 };
+  text = λ a b same x y h k. one-accepted (b Design) (b Arrivals) (b Trace) x y (rw (← same.0, ← same.1.0, ← same.1.1.0) h) k;
   stops = never-stops (acceptances design arrivals trace) (λ texts text stop h. h);
 }

@@ -193,9 +193,17 @@ can-make bytes made w = record {
   short = (let short = w.short in rw w.made at short);
 }
 
+one-made : (bytes x y : List ℕ) → IsBackgroundTextFor bytes x → IsBackgroundTextFor bytes y → x ≡ y
+one-made bytes x y h k =
+    let one : h.design ≡ k.design = one-design bytes h.design k.design h.reads k.reads in
+    let P : designs.Design → Type 0 = λ z. IsLeastVector (hard_rows (in_ticks z)) h.bounds in
+    let bounds : h.bounds ≡ k.bounds = one_least (hard_rows (in_ticks k.design)) h.bounds k.bounds (subst P one h.least) k.least in
+    h.made ∙ ap (λ z. background_text (in_ticks z) h.bounds) one ∙ ap (background_text (in_ticks k.design)) bounds ∙ sym k.made
+
 pub backgrounds-exact : IsExactOf of_background
 backgrounds-exact = record {
   able = not-refused;
   one = same-refusal;
   made = can-make;
+  text = one-made;
 }

@@ -1,5 +1,5 @@
 -- That the verb `format` refuses a text for one reason, and none that reads as a design.
-use Rattle.std.proofs.Common.{◌≡◌, ℕ, ◌≤◌, List, length, subst, sym, ap}
+use Rattle.std.proofs.Common.{◌≡◌, ℕ, ◌≤◌, List, length, subst, sym, ap, ◌∙◌}
 use Rattle.seq_tree.specs.Limits.{text_limit}
 use Rattle.ods_tree.specs.Designs as designs
 use Rattle.ods_tree.specs.Layout.{design_text}
@@ -8,7 +8,7 @@ use Rattle.ods_print.proofs.Shared.Again.{reads-again}
 use Rattle.hrthood_top.specs.declared.format.FormatRefusal.{FormatRefusal}
 use Rattle.hrthood_top.specs.declared.format.FormatRefusal.TheVariants.{Text}
 use Rattle.hrthood_top.specs.Formats.{IsFormatted, RefusesFormat, of_format}
-use Rattle.hrthood_top.proofs.OneDesign.{no-fault, one-fault}
+use Rattle.hrthood_top.proofs.OneDesign.{one-design, no-fault, one-fault}
 use Rattle.hrthood_top.proofs.VerbLaws.{IsExactOf}
 
 -- what is printed of a design that was read
@@ -31,4 +31,5 @@ formats-exact = record {
   able = λ bytes w r h. can_or_refuses bytes w.0 w.1 r h;
   one = one_refusal;
   made = λ bytes text w. (w.design, w.reads);
+  text = λ bytes x y w k. w.text_is ∙ ap design_text (one-design bytes w.design k.design w.reads k.reads) ∙ sym k.text_is;
 }

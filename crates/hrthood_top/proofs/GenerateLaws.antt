@@ -1,5 +1,5 @@
 -- That the verb `generate` refuses a design for one reason, and none that it can be done of.
-use Rattle.std.proofs.Common.{◌≡◌, ℕ, List, [], ◌∷◌, length, refl, ap, subst, ◌∙◌, arith}
+use Rattle.std.proofs.Common.{◌≡◌, ℕ, List, [], ◌∷◌, length, refl, sym, ap, subst, ◌∙◌, arith}
 use Rattle.ods_tree.specs.Designs as designs
 use Rattle.ods_tree.specs.Flattening.{flat}
 use Rattle.ods_tree.specs.Ticks.{in_ticks}
@@ -79,9 +79,26 @@ one_refusal bytes Long (Untaken q) h k = absurd (not-untaken bytes h.design q h.
 one_refusal bytes Long (Miss thread miss) h k = absurd (bounds_or_none bytes thread miss k h)
 one_refusal bytes Long Long h k = refl
 
+-- a design has one text, with one vector of bounds
+pub record IsSameText (bytes t u : List ℕ) (h : IsTextFor bytes t) (k : IsTextFor bytes u) : Type 0 where
+  pub designs : h.design ≡ k.design
+  pub bounds : h.bounds ≡ k.bounds
+
+pub same-text : (bytes t u : List ℕ) (h : IsTextFor bytes t) (k : IsTextFor bytes u) → IsSameText bytes t u h k
+same-text bytes t u h k =
+    let one : h.design ≡ k.design = one-design bytes h.design k.design h.reads k.reads in
+    let P : designs.Design → Type 0 = λ z. IsLeastVector (table (flat (in_ticks z))).rows h.bounds in
+    record { designs = one; bounds = one_least (table (flat (in_ticks k.design))).rows h.bounds k.bounds (subst P one h.least) k.least }
+
+pub one-made : (bytes t u : List ℕ) → IsTextFor bytes t → IsTextFor bytes u → t ≡ u
+one-made bytes t u h k =
+    let same = same-text bytes t u h k in
+    h.made ∙ ap (λ z. text (in_ticks z) h.bounds) same.designs ∙ ap (text (in_ticks k.design)) same.bounds ∙ sym k.made
+
 pub generates-exact : IsExactOf of_generate
 generates-exact = record {
   able = can_or_refuses;
   one = one_refusal;
   made = can_make;
+  text = one-made;
 }

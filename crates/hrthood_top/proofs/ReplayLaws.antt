@@ -18,6 +18,7 @@ use Rattle.arrivals_read.specs.Answers as arriving
 use Rattle.arrivals_read.specs.declared.fault.ArrivalFault.{ArrivalFault}
 use Rattle.arrivals_read.proofs.Shared.Refusals.{refused-nothing, one-refusal}
 use Rattle.trace_tree.specs.declared.event.Event.{Event}
+use Rattle.trace_tree.specs.Lines.{lines}
 use Rattle.machine.specs.Meanings.{Meaning, start}
 use Rattle.machine.specs.Systems.{system}
 use Rattle.machine.proofs.Shared.RunLaws.{Rest-unique}
@@ -88,11 +89,11 @@ one_refusal ada arrivals (refusal.Arrivals f) (refusal.Unit rule unit) h k = abs
 one_refusal ada arrivals (refusal.Arrivals f) (refusal.Arrivals g) h k = ap refusal.Arrivals (one_arrivals ada arrivals f g h k)
 
 -- texts say one program and arrivals, which mean one thing
-record IsSame (ada arrivals : List ℕ) (p : Program) (told told' : List Event) (text : List ℕ) (t : Traces ada arrivals told' text) : Type 0 where
-  programs : p ≡ t.program
-  meanings : told ≡ told'
+pub record IsSame (ada arrivals : List ℕ) (p : Program) (told told' : List Event) (text : List ℕ) (t : Traces ada arrivals told' text) : Type 0 where
+  pub programs : p ≡ t.program
+  pub meanings : told ≡ told'
 
-one_meaning : (ada arrivals : List ℕ) (p : Program) (a : Arrivals) (told told' : List Event) (text : List ℕ) → Accepts ada p
+pub one_meaning : (ada arrivals : List ℕ) (p : Program) (a : Arrivals) (told told' : List Event) (text : List ℕ) → Accepts ada p
     → Arrives horizon_limit arrivals p a → Meaning p a told
     → (t : Traces ada arrivals told' text) → IsSame ada arrivals p told told' text t
 one_meaning ada arrivals p a told told' text accepts arrives means t =
@@ -125,11 +126,25 @@ one_stop ada arrivals x y v w h k =
     let P : Program → Type 0 = λ p. EndsAt p k.told v in
     one-violation k.traces.program k.told v w (subst P same.programs (subst E same.meanings h.ends)) k.ends
 
+-- what is written of what was told
+same_lines : (ada arrivals x y : List ℕ) (told other : List Event) (h : Traces ada arrivals told x) → Traces ada arrivals other y → x ≡ y
+same_lines ada arrivals x y told other h k =
+    let same = one_meaning ada arrivals h.program h.under told other y h.says.accepts h.arriving.arrives h.trace.means k in
+    h.trace.whole ∙ ap (λ p. lines p told) same.programs ∙ ap (lines k.program) same.meanings ∙ sym k.trace.whole
+
+-- texts replay to one trace
+pub one-replay : (ada arrivals x y : List ℕ) → Replays ada arrivals x → Replays ada arrivals y → x ≡ y
+one-replay ada arrivals x y h k = same_lines ada arrivals x y h.told k.told h.traces k.traces
+
+one_stop_text : (ada arrivals x y : List ℕ) (v w : Violation) → StopsAt ada arrivals x v → StopsAt ada arrivals y w → x ≡ y
+one_stop_text ada arrivals x y v w h k = same_lines ada arrivals x y h.told k.told h.traces k.traces
+
 replays-stop : (ada arrivals : List ℕ) → StopsExactly (replays ada arrivals)
 replays-stop ada arrivals = record {
   able = λ a b same w v text h. can_or_stops (b kind.Ada) (b kind.Arrivals) text v (rw (← same.0, ← same.1.0) w) h;
   apart = λ a b same r h v text k. refuses_or_stops (b kind.Ada) (b kind.Arrivals) text r v (rw (← same.0, ← same.1.0) h) k;
   one = λ a b same v w x y h k. one_stop (b kind.Ada) (b kind.Arrivals) x y v w (rw (← same.0, ← same.1.0) h) k;
+  text = λ a b same v w x y h k. one_stop_text (b kind.Ada) (b kind.Arrivals) x y v w (rw (← same.0, ← same.1.0) h) k;
 }
 
 pub replays-exact : (ada arrivals : List ℕ) → IsExact (replays ada arrivals)
@@ -137,5 +152,6 @@ replays-exact ada arrivals = record {
   one = λ a b same r q h k. one_refusal (b kind.Ada) (b kind.Arrivals) r q (rw (← same.0, ← same.1.0) h) k;
   able = λ a b same w r h. can_or_refuses (b kind.Ada) (b kind.Arrivals) (rw (← same.0, ← same.1.0) w) r h;
   made = λ a written w. can_make (a kind.Ada) (a kind.Arrivals) written w;
+  text = λ a b same x y h k. one-replay (b kind.Ada) (b kind.Arrivals) x y (rw (← same.0, ← same.1.0) h) k;
   stops = replays-stop ada arrivals;
 }

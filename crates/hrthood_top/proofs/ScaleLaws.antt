@@ -1,24 +1,27 @@
 -- That the verb `scale` refuses a design for one reason, and none that meets the rules and holds at one per mille.
-use Rattle.std.proofs.Common.{◌≡◌, ℕ, List, Some, subst, sym, ap, ◌∙◌}
+use Rattle.std.proofs.Common.{◌≡◌, ℕ, suc, List, Option, Some, None, refl, subst, sym, ap, ◌∙◌, arith}
 use Rattle.seq_tree.specs.Names.{Name}
 use Rattle.ods_tree.specs.Designs as designs
+use Rattle.ods_tree.specs.Flats.{Flat}
 use Rattle.ods_tree.specs.Flattening.{flat}
 use Rattle.ods_tree.specs.Ticks.{in_ticks}
 use Rattle.rt_response.specs.declared.rows.Miss as rows
 use Rattle.analysis.specs.Tables.{table}
 use Rattle.design_bounds.specs.Analyses.{IsMissed}
 use Rattle.design_bounds.specs.Rows.{name_of_row}
-use Rattle.law_scaling.specs.Scaling.{scaled}
-use Rattle.law_scaling.specs.Holding.{Holds}
-use Rattle.scaling.specs.Margins.{IsMargin, HasNoMargin}
+use Rattle.law_scaling.specs.Scaling.{scaled, scaled_in}
+use Rattle.law_scaling.specs.Holding.{Holds, IsGreatest}
+use Rattle.scaling.specs.Failures.{IsDear}
+use Rattle.scaling.specs.Margins.{IsMargin, IsNext, HasNoMargin}
 use Rattle.scaling.specs.declared.margin.Margin.{Margin}
+use Rattle.scaling.specs.declared.margin.Next.{Next}
 use Rattle.scaling.specs.declared.margin.Next.TheVariants as next
 use Rattle.hrthood_top.specs.declared.scale.ScaleRefusal.{ScaleRefusal}
 use Rattle.hrthood_top.specs.declared.scale.ScaleRefusal.TheVariants.{Untaken, Miss}
 use Rattle.hrthood_top.specs.Scales.{CanScale, HoldsNowhere, IsScaled, RefusesScale, margin_lines, of_scale}
 use Rattle.bridge.specs.Taking.{IsTakenAs}
 use Rattle.hrthood_top.proofs.OneDesign.{one-design, not-untaken, one-untaken}
-use Rattle.law_backgrounds.proofs.Shared.FirstFaults.{one-at}
+use Rattle.law_backgrounds.proofs.Shared.FirstFaults.{no-less, one-at}
 use Rattle.hrthood_top.proofs.OneRule.{one-miss}
 use Rattle.hrthood_top.proofs.Taken.{taken-sound}
 use Rattle.hrthood_top.proofs.VerbLaws.{IsExactOf}
@@ -79,11 +82,53 @@ one_refusal bytes (Miss thread m) (Miss other n) h k = one_over bytes thread oth
 can_make : (bytes made : List ℕ) → IsScaled bytes made → CanScale bytes
 can_make bytes made w = record { design = w.design; reads = w.reads; meets = w.meets; holds = w.holds }
 
+-- one per mille is the greatest at which a design holds, and one thing fails at the next
+one_greatest : (f : Flat) (j k : ℕ) → IsGreatest f j → IsGreatest f k → j ≡ k
+one_greatest f j k h g = no-less j k (λ l. h.above k l g.within.1 g.holds) (λ l. g.above j l h.within.1 h.holds)
+
+one_dear : (f : Flat) (name other : Name) (part piece : Option Name) → IsDear f name part → IsDear f other piece
+    → ◌≡◌ {A = Next} (next.Cost name part) (next.Cost other piece)
+one_dear f name other part piece h k =
+    let same = one-at _ (record { object = name; op = part; ticks = h.0 }) (record { object = other; op = piece; ticks = k.0 }) h.1 k.1 in
+    ap (λ d. next.Cost d.object d.op) same
+
+one_missed : (f : Flat) (thread other : Name) (m n : rows.Miss) → IsMissed f thread m → IsMissed f other n
+    → ◌≡◌ {A = Next} (next.Miss thread m) (next.Miss other n)
+one_missed f thread other m n h k =
+    let miss : m ≡ n = one-miss (table f).rows m n h.first k.first in
+    let called : name_of_row f n.index ≡ Some thread = ap (λ z. name_of_row f z.index) (sym miss) ∙ h.called in
+    ap (λ z. next.Miss z m) (one-at _ thread other called k.called) ∙ ap (λ z. next.Miss other z) miss
+
+one_next : (f : Flat) (k : ℕ) (a b : Next) → IsNext None f k a → IsNext None f k b → a ≡ b
+one_next f k next.Limit next.Limit h g = refl
+one_next f k next.Limit (next.Cost name part) h g = (let less = g.0 in absurd (omega (arith, h, less)))
+one_next f k next.Limit (next.Miss thread miss) h g = (let less = g.0 in absurd (omega (arith, h, less)))
+one_next f k (next.Cost name part) next.Limit h g = (let less = h.0 in absurd (omega (arith, g, less)))
+one_next f k (next.Cost name part) (next.Cost other piece) h g = one_dear (scaled_in None (suc k) f) name other part piece h.1 g.1
+one_next f k (next.Cost name part) (next.Miss thread miss) h g = (let a = h.1.1 in let b = g.1.0 in cc)
+one_next f k (next.Miss thread miss) next.Limit h g = (let less = h.0 in absurd (omega (arith, g, less)))
+one_next f k (next.Miss thread miss) (next.Cost other piece) h g = (let a = h.1.0 in let b = g.1.1 in cc)
+one_next f k (next.Miss thread miss) (next.Miss other more) h g = one_missed (scaled_in None (suc k) f) thread other miss more h.1.1 g.1.1
+
+one_margin : (f : Flat) (m n : Margin) → IsMargin f m → IsMargin f n → m ≡ n
+one_margin f m n h k =
+    let per_mille : m.per_mille ≡ n.per_mille = one_greatest f m.per_mille n.per_mille h.greatest k.greatest in
+    let N : ℕ → Type 0 = λ j. IsNext None f j m.next in
+    let fails : m.next ≡ n.next = one_next f n.per_mille m.next n.next (subst N per_mille h.next) k.next in
+    rw (per_mille, fails) refl
+
+one_text : (bytes x y : List ℕ) → IsScaled bytes x → IsScaled bytes y → x ≡ y
+one_text bytes x y h k =
+    let M : designs.Design → Type 0 = λ z. IsMargin (flat (in_ticks z)) h.margin in
+    let right = subst M (one-design bytes h.design k.design h.reads k.reads) h.right in
+    h.told ∙ ap margin_lines (one_margin (flat (in_ticks k.design)) h.margin k.margin right k.right) ∙ sym k.told
+
 pub scales-exact : IsExactOf of_scale
 scales-exact = record {
   able = can_or_refuses;
   one = one_refusal;
   made = can_make;
+  text = one_text;
 }
 
 pub ruleset scale_laws = (taken-sound, scaled-as, holds-nowhere)

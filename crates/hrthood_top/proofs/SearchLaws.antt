@@ -1,15 +1,22 @@
 -- That the verb `search` refuses a design for one reason, and none that passes under some order.
-use Rattle.std.proofs.Common.{◌≡◌, ℕ, ◌+◌, List, [], ◌∷◌, Bool, true, false, ◌||◌, cond, Some, refl, sym, ap, ◌∙◌}
+use Rattle.std.proofs.Common.{◌≡◌, ℕ, ◌+◌, List, [], ◌∷◌, Bool, true, false, ◌||◌, cond, Some, refl, sym, ap, subst, ◌∙◌}
 use Rattle.std.specs.List.{list_any, position_from}
 use Rattle.seq_tree.specs.Names.{Name}
 use Rattle.ods_tree.specs.Flats.{Flat}
 use Rattle.ods_tree.specs.Flattening.{flat}
 use Rattle.analysis.specs.Sound.{IsSound}
 use Rattle.law_orders.specs.Orders.{is_internal, AllExternal}
-use Rattle.priority_search.proofs.Shared.OneAnswer.{one-refuted}
+use Rattle.priority_search.proofs.Shared.OneAnswer.{one-refuted, one-filled}
+use Rattle.rt_response.specs.declared.rows.Bound.{Bound}
+use Rattle.rt_response.specs.Response.{IsLeastVector}
+use Rattle.law_orders.specs.Orders.{rows_by}
 use Rattle.hrthood_top.specs.declared.search.SearchRefusal.{SearchRefusal}
 use Rattle.hrthood_top.specs.declared.search.SearchRefusal.TheVariants as refusal
-use Rattle.hrthood_top.specs.Searches.{name_at, names_at, IsInternal, HasNoOrder, IsSearched, RefusesSearch, CanSearch, of_search}
+use Rattle.hrthood_top.specs.Searches.{name_at, names_at, IsInternal, HasNoOrder, IsOrdered, IsSearched, RefusesSearch, CanSearch, of_search}
+use Rattle.hrthood_top.specs.Searches.{report_by}
+use Rattle.ods_tree.specs.Designs as designs
+use Rattle.ods_tree.specs.Ticks.{first_priority}
+use Rattle.hrthood_top.proofs.GenerateLaws.{one_least}
 use Rattle.law_backgrounds.proofs.Shared.FirstFaults.{one-at}
 use Rattle.hrthood_top.proofs.OneDesign.{one-untaken}
 use Rattle.hrthood_top.proofs.Taken.{along, taken-not, taken-sound}
@@ -69,9 +76,23 @@ can_make bytes made w = record {
   passes = (w.2.bounds, w.2.least.fits);
 }
 
+-- there is one order to find, with one least vector
+one_ordered : (first : ℕ) (f : Flat) (x y : List ℕ) → IsSound f → IsOrdered first f x → IsOrdered first f y → x ≡ y
+one_ordered first f x y sound h k =
+    let order : h.order ≡ k.order = one-filled f h.order k.order sound h.is_order k.is_order h.filled k.filled in
+    let P : List ℕ → Type 0 = λ o. IsLeastVector (rows_by f o) h.bounds in
+    let bounds : h.bounds ≡ k.bounds = one_least (rows_by f k.order) h.bounds k.bounds (subst P order h.least) k.least in
+    h.told ∙ ap (λ o. report_by first f o h.bounds) order ∙ ap (report_by first f k.order) bounds ∙ sym k.told
+
+one_found : (bytes x y : List ℕ) → IsSearched bytes x → IsSearched bytes y → x ≡ y
+one_found bytes x y h k =
+    let O : designs.Design → Type 0 = λ z. IsOrdered (first_priority z) (flat z) x in
+    one_ordered (first_priority k.0) (flat k.0) x y (taken-sound bytes k.0 k.1) (along O bytes h.0 k.0 h.1 k.1 h.2) k.2
+
 pub searches-exact : IsExactOf of_search
 searches-exact = record {
   able = not_refused;
   one = one_refusal;
   made = can_make;
+  text = one_found;
 }

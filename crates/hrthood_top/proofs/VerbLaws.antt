@@ -5,7 +5,8 @@ use Rattle.hood_io.specs.Shelves.{Told}
 use Rattle.hrthood_top.specs.declared.file_kind.FileKind.TheVariants.{Design}
 use Rattle.hrthood_top.specs.Files.{File, Texts, Holds, HoldsAll, IsTooLong}
 use Rattle.hrthood_top.specs.Verbs.{OfDesign, Verb, on_design}
-use Rattle.hrthood_top.specs.Ends.{Writes, Cause, TooLong, Refusal, Stopped, Refuses, CanDo}
+use Rattle.hrthood_top.specs.Ends.{Writes, WritesUpTo, Cause, TooLong, Refusal, Stopped, Refuses, CanDo}
+use Rattle.hrthood_top.specs.Exact.{WritesOneText}
 
 -- texts that are the same for these files
 abbrev pub Agree : List File → Texts → Texts → Type 0
@@ -19,6 +20,8 @@ pub record StopsExactly (v : Verb) : Type 0 where
   pub apart : (a b : Texts) → Agree v.files a b → (r : v.Refusal) → v.Refuses a r → (stop : v.Stop) (text : List ℕ) → v.Stops b text stop → ⊥
   -- it stops in one way
   pub one : (a b : Texts) → Agree v.files a b → (s q : v.Stop) (x y : List ℕ) → v.Stops a x s → v.Stops b y q → s ≡ q
+  -- behind one text
+  pub text : (a b : Texts) → Agree v.files a b → (s q : v.Stop) (x y : List ℕ) → v.Stops a x s → v.Stops b y q → x ≡ y
 
 -- a verb that never stops
 pub never-stops : (v : Verb) → ((texts : Texts) (text : List ℕ) (stop : v.Stop) → v.Stops texts text stop → ⊥) → StopsExactly v
@@ -26,6 +29,7 @@ never-stops v never = record {
   able = λ a b same w stop text h. never b text stop h;
   apart = λ a b same r h stop text k. never b text stop k;
   one = λ a b same s q x y h k. absurd (never a x s h);
+  text = λ a b same s q x y h k. absurd (never a x s h);
 }
 
 -- what is to be shown of a verb
@@ -36,6 +40,8 @@ pub record IsExact (v : Verb) : Type 0 where
   pub one : (a b : Texts) → Agree v.files a b → (r q : v.Refusal) → v.Refuses a r → v.Refuses b q → r ≡ q
   -- what it makes something of, it can be done of
   pub made : (a : Texts) (text : List ℕ) → v.Makes a text → v.CanDo a
+  -- what it makes is one text
+  pub text : (a b : Texts) → Agree v.files a b → (x y : List ℕ) → v.Makes a x → v.Makes b y → x ≡ y
   pub stops : StopsExactly v
 
 -- what is to be shown of what is made of a design alone
@@ -43,12 +49,14 @@ pub record IsExactOf (of : OfDesign) : Type 0 where
   pub able : (bytes : List ℕ) → of.CanDo bytes → (r : of.Refusal) → of.Refuses bytes r → ⊥
   pub one : (bytes : List ℕ) (r q : of.Refusal) → of.Refuses bytes r → of.Refuses bytes q → r ≡ q
   pub made : (bytes text : List ℕ) → of.Makes bytes text → of.CanDo bytes
+  pub text : (bytes x y : List ℕ) → of.Makes bytes x → of.Makes bytes y → x ≡ y
 
 pub design-exact : (of : OfDesign) (name : List ℕ) → IsExactOf of → IsExact (on_design of name)
 design-exact of name h = record {
   able = λ a b same w r refused. h.able (b Design) (subst of.CanDo same.0 w) r refused;
   one = λ a b same r q refused k. h.one (b Design) r q (subst (λ z. of.Refuses z r) same.0 refused) k;
   made = λ a text w. h.made (a Design) text w;
+  text = λ a b same x y w k. h.text (b Design) x y (subst (λ z. of.Makes z x) same.0 w) k;
   stops = never-stops (on_design of name) (λ texts text stop stops. stops);
 }
 
@@ -126,3 +134,10 @@ one-cause t v (Stopped stop) (Stopped other) exact h k =
     ap (λ z. Stopped z) (exact.stops.one h.1.0 k.1.0 (held-agree t v.files h.1.0 k.1.0 h.1.1 k.1.1) stop other h.0 k.0 h.1.2 k.1.2)
 one-cause t v (Refusal refusal) (Refusal other) exact h k
     = ap (λ z. Refusal z) (exact.one h.0 k.0 (held-agree t v.files h.0 k.0 h.1 k.1) refusal other h.2 k.2)
+
+-- and writes one text
+pub one-text : (t : Told) (v : Verb) → IsExact v → WritesOneText t v
+one-text t v exact = record {
+  done = λ text other h k. exact.text h.0 k.0 (held-agree t v.files h.0 k.0 h.1 k.1) text other h.2 k.2;
+  stopped = λ stop halt text other h k. exact.stops.text h.0 k.0 (held-agree t v.files h.0 k.0 h.1 k.1) stop halt text other h.2 k.2;
+}

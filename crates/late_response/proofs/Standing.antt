@@ -166,30 +166,58 @@ marked-live first starter i xs ys marked live =
 pub marked-before : (first starter i : ℕ) (xs : List Known) → i < first → marked_at first starter xs i ≡ slice_get xs i
 marked-before first starter i xs h = let test : nat_lt i first ≡ true = grind arith in rw test refl
 
-pub marked-stand : (rows : List ThreadRow) (k first starter : ℕ) (xs ys : List Known) → StartsAt rows first starter
-    → (IsLiveIn (slice_get xs starter) → ⊥) → length ys ≡ length xs → ((i : ℕ) → slice_get ys i ≡ marked_at first starter xs i)
-    → Stands rows k xs → Stands rows k ys
-marked-stand rows k first starter xs ys starts out long marked stands = record {
+-- no row before a place needs what is not live or stands from there on
+abbrev pub IsFrontFed : List ThreadRow → List Known → ℕ → Type 0
+IsFrontFed rows xs first = (i s : ℕ) → i < first → StartsAt rows i s → IsLiveIn (slice_get xs s) × (s < first)
+
+-- then all that a live row before it depends on is live
+front-live : (rows : List ThreadRow) (xs : List Known) (first i j : ℕ) → IsFrontFed rows xs first → i < first → IsLiveIn (slice_get xs i)
+    → DependsOn rows i j → IsLiveIn (slice_get xs j)
+front-live rows xs first i j front less live itself = live
+front-live rows xs first i j front less live (through {starter = s} needs more) =
+    let up : needs.place ≤ i = needs.up in
+    let there = front needs.place s (omega (arith, up, less)) (needs-starts rows i s needs) in
+    front-live rows xs first s j front there.1 there.0 more
+
+-- in the round that stands a live row from a place on needs this starter of the row there, which is lost
+abbrev pub IsLostFrom : List ThreadRow → List Known → ℕ → ℕ → ℕ → Type 0
+IsLostFrom rows xs k first starter = (i : ℕ) → first ≤ i → IsLiveIn (slice_get xs i) → StartsAt rows first starter × IsLost rows k starter
+
+-- the place moves up to a row whose starter is not live, or stands from the place on
+pub lost-up : (rows : List ThreadRow) (k first starter up lost : ℕ) (xs : List Known) → Stands rows k xs → IsLostFrom rows xs k first starter
+    → StartsAt rows up lost → (IsLiveIn (slice_get xs lost) → first ≤ lost) → IsLostFrom rows xs k up lost
+lost-up rows k first starter up lost xs stands before starts out i above live =
+    (starts, by (stands.lost i lost live (starts-needs rows i up lost above starts)))
+  where
+    by : IsLiveIn (slice_get xs lost) ⊎ IsLost rows k lost → IsLost rows k lost
+    by (inl there) =
+        let behind = before lost (out there) there in
+        (behind.1.0, through (starts-needs rows lost first starter (out there) behind.0) behind.1.1, behind.1.2)
+    by (inr gone) = gone
+
+pub marked-stand : (rows : List ThreadRow) (k first starter : ℕ) (xs ys : List Known) → IsFrontFed rows xs first → IsLostFrom rows xs k first starter
+    → length ys ≡ length xs → ((i : ℕ) → slice_get ys i ≡ marked_at first starter xs i) → Stands rows k xs → Stands rows k ys
+marked-stand rows k first starter xs ys front behind long marked stands = record {
   long = long ∙ stands.long;
   each = each;
   jitters = jitters;
   lost = lost;
 }
   where
-    -- a live row from there on needs the starter, which was lost in this round
-    gone : (i : ℕ) → first ≤ i → IsLiveIn (slice_get xs i) → IsLost rows k starter
-    gone i up live = by (stands.lost i starter live (starts-needs rows i first starter up starts))
-      where
-        by : IsLiveIn (slice_get xs starter) ⊎ IsLost rows k starter → IsLost rows k starter
-        by (inl live) = absurd (out live)
-        by (inr lost) = lost
+    -- what the rows before need is followed
+    before : (i s : ℕ) → i < first → Needs rows i s → IsFollowed rows k s
+    before i s less needs j dep =
+        let up : needs.place ≤ i = needs.up in
+        let there = front needs.place s (omega (arith, up, less)) (needs-starts rows i s needs) in
+        (live-row rows k xs j stands (live-at xs j (front-live rows xs first s j front there.1 there.0 dep))).1.within
 
     fallen : (i n : ℕ) (r : Reach) → first ≤ i → slice_get xs i ≡ Some (record { jitter = n; reach = r }) → IsKnown rows k i n r
         → IsKnown rows k i n (behind_of starter (record { jitter = n; reach = r })).reach
-    fallen i n (Solved j r) up at known = record {
+    fallen i n (Solved j r) up at known = let gone = behind i up (live-is xs i _ at tt) in record {
       round = k;
-      needs = starts-needs rows i first starter up starts;
-      lost = gone i up (live-is xs i _ at tt);
+      needs = starts-needs rows i first starter up gone.0;
+      lost = gone.1;
+      first = before;
       within = known.1.within;
       followed = known.1.followed;
     }
@@ -233,8 +261,8 @@ marked-stand rows k first starter xs ys starts out long marked stands = record {
             inl (subst (λ o. IsLiveIn o) (sym (marked s ∙ marked-before first starter s xs less)) h)
         go false e h =
             let up : first ≤ s = grind arith in
-            let gone : IsLost rows k starter = gone s up h in
-            inr (gone.0, through (starts-needs rows s first starter up starts) gone.1, gone.2)
+            let gone = behind s up h in
+            inr (gone.1.0, through (starts-needs rows s first starter up gone.0) gone.1.1, gone.1.2)
 
         by : IsLiveIn (slice_get xs s) ⊎ IsLost rows k s → IsLiveIn (slice_get ys s) ⊎ IsLost rows k s
         by (inl h) = go (nat_lt s first) refl h

@@ -115,5 +115,5 @@ least-told rows found v table told least =
         let here = slice_get-get_or v i (record { jitter = 0; response = 0 }) inside in
         let b = get_or v i (record { jitter = 0; response = 0 }) in
         let solved = (least-solved rows v table least).each i b here in
-        let same : r ≡ solved_with b = told-once rows i (solved_with b) r solved (told.each i r at) in
+        let same : r ≡ solved_with b = told-once rows i r (solved_with b) (told.each i r at) solved in
         slice_get-map solved_with v i ∙ ap (λ o. option_map solved_with o) here ∙ ap (λ z. Some z) (sym same)

@@ -60,11 +60,12 @@ pub record IsBeyond (rows : List ThreadRow) (i k : ℕ) (b : Bound) : Type 0 whe
   pub followed : (m : ℕ) → m < k → IsFollowed rows m i
 
 -- a row whose bound is not known, since it needs that of a starter: in the first round in which a row that it depends on is over ten times
--- its limits, it is one on which the starter depends, and the row itself is within
+-- its limits, it is one on which the starter depends, and the row itself is within; of such starters it is that of the first row that has one
 pub record IsBehind (rows : List ThreadRow) (i starter : ℕ) : Type 0 where
   pub round : ℕ
   pub needs : Needs rows i starter
   pub lost : (j : ℕ) × DependsOn rows starter j × IsOver rows round j
+  pub first : (k s : ℕ) → k < needs.place → Needs rows k s → IsFollowed rows round s
   pub within : IsWithin rows round i
   pub followed : (m : ℕ) → m < round → IsFollowed rows m i
 

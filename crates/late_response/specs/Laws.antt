@@ -50,17 +50,13 @@ BeyondIsLate =
     (rows : List ThreadRow) (i k : ℕ) (row : ThreadRow) (b c : Bound) (u : List Bound) → IsBeyond rows i k b → Meets rows u
     → slice_get rows i ≡ Some row → slice_get u i ≡ Some c → IsFar row c
 
--- the same is told of a row, but that a row may be behind several starters
-abbrev pub AreSame : Reach → Reach → Type 0
-AreSame (Solved jitter response) r = r ≡ Solved jitter response
-AreSame (Beyond round jitter response) r = r ≡ Beyond round jitter response
-AreSame (Behind starter) (Solved jitter response) = ⊥
-AreSame (Behind starter) (Beyond round jitter response) = ⊥
-AreSame (Behind starter) (Behind other) = Unit {0}
-
 -- what is told of a row is the only thing that can be
 abbrev pub ToldOnce : Type 0
-ToldOnce = (rows : List ThreadRow) (i : ℕ) (r other : Reach) → IsTold rows i r → IsTold rows i other → AreSame r other
+ToldOnce = (rows : List ThreadRow) (i : ℕ) (r other : Reach) → IsTold rows i r → IsTold rows i other → r ≡ other
+
+-- so one list is told of a table
+abbrev pub TableToldOnce : Type 0
+TableToldOnce = (rows : List ThreadRow) (found others : List Reach) → AreTold rows found → AreTold rows others → found ≡ others
 
 -- a jitter and a response time that are told of a row, together
 abbrev pub told_sum : Option Reach → ℕ

@@ -13,31 +13,31 @@ fn is_live(reach: &Reach) -> bool
     matches!(reach, Reach::Solved { .. })
 }
 
-/// Returns the starter of a row, where it has one that is not live.
-fn lost_starter(row: &ThreadRow, known: &[Known]) -> Option<u32>
+/// Returns the starter of a row, where it has one that is not live, or that stands behind so many rows.
+fn lost_starter(row: &ThreadRow, known: &[Known], count: usize) -> Option<u32>
     requires { IsStarter (length known.now) row.now.starter }
-    ensures some { IfSome result (λ s. (row.now.starter ≡ Some s) × (IsLiveIn (slice_get known.now s) → ⊥)) }
-    ensures none { result ≡ None → (s : ℕ) → row.now.starter ≡ Some s → IsLiveIn (slice_get known.now s) }
+    ensures some { IfSome result (λ s. (row.now.starter ≡ Some s) × (IsLiveIn (slice_get known.now s) → count ≤ s)) }
+    ensures none { result ≡ None → (s : ℕ) → row.now.starter ≡ Some s → IsLiveIn (slice_get known.now s) × (s < count) }
 {
     let starter = row.starter?;
-    if is_live(&known[starter as usize].reach) {
+    if is_live(&known[starter as usize].reach) && (starter as usize) < count {
         return None;
     }
     Some(starter)
 }
 
-/// Returns the first of so many rows whose starter is not live, with that starter.
+/// Returns the first of so many rows whose starter is not live, or stands behind them, with that starter.
 fn first_behind(table: &[ThreadRow], known: &[Known], count: usize) -> Option<(usize, u32)>
     requires table { IsTable table.now }
     requires long { length known.now ≡ length table.now }
     requires count { count ≤ length table.now }
     ensures within { IfSome result (λ r. r.0 < count) }
     ensures starts { IfSome result (λ r. StartsAt table.now r.0 r.1) }
-    ensures out { IfSome result (λ r. IsLiveIn (slice_get known.now r.1) → ⊥) }
-    ensures none { result ≡ None → (i s : ℕ) → i < count → StartsAt table.now i s → IsLiveIn (slice_get known.now s) }
+    ensures out { IfSome result (λ r. IsLiveIn (slice_get known.now r.1) → count ≤ r.1) }
+    ensures none { result ≡ None → (i s : ℕ) → i < count → StartsAt table.now i s → IsLiveIn (slice_get known.now s) × (s < count) }
 {
     'rows: for index in 0..count {
-        if let Some(starter) = lost_starter(&table[index], known) {
+        if let Some(starter) = lost_starter(&table[index], known, count) {
             return Some((index, starter));
         }
     }
@@ -68,7 +68,7 @@ fn mark(known: &mut [Known], first: usize, starter: u32)
     }
 }
 
-/// Notes a starter that is not live for each row that needs one, until none is left.
+/// Notes for each live row that needs a starter that is not live, or falls behind one, the starter of the first row that has such a one.
 pub fn close(table: &[ThreadRow], known: &mut [Known])
     requires table { IsTable table.now }
     requires long { length known.old ≡ length table.now }
@@ -79,8 +79,10 @@ pub fn close(table: &[ThreadRow], known: &mut [Known])
     ensures rises { total known.old ≤ total known.new }
 {
     let mut count = known.len();
-    'rows: while let Some((first, starter)) = first_behind(table, known, count) {
-        mark(known, first, starter);
+    let mut starter = 0;
+    'rows: while let Some((first, lost)) = first_behind(table, known, count) {
         count = first;
+        starter = lost;
     }
+    mark(known, count, starter);
 }

@@ -21,7 +21,7 @@ mod sides;
 mod solving;
 
 ghost use Rattle.late_response.specs.Laws.{SolvedIsLeast, SolvedMeetsItsEquation, SolvedInTimeIsLeast, LeastIsSolved, BeyondIsLate, ToldOnce};
-ghost use Rattle.late_response.specs.Laws.{ToldMeetsItsEquation, NoneIsLate, LeastIsTold};
+ghost use Rattle.late_response.specs.Laws.{TableToldOnce, ToldMeetsItsEquation, NoneIsLate, LeastIsTold};
 
 pub use per_mille::utilisation;
 pub use reach::Reach;
@@ -52,9 +52,10 @@ pub fn rows_beyond_are_late()
     ensures { BeyondIsLate }
 {}
 
-/// What is told of a row is the only thing that can be, but that it may need several starters without a solution.
+/// What is told of a row is the only thing that can be, and one list is told of a table.
 pub fn rows_are_told_once()
-    ensures { ToldOnce }
+    ensures row { ToldOnce }
+    ensures table { TableToldOnce }
 {}
 
 /// The numbers that are told of a solved row are those of its equation, with the jitters that are told of the starters above it.

@@ -75,7 +75,7 @@ joined : {d r a b text : List ℕ} → ◌≡◌ {A = Option (List ℕ)} (Some a
 joined e f h = cc
 
 -- what the verb writes of these files, and what it writes before it stops
-made : (text : List ℕ) → Writes (shelf (codes "ab") (codes "c") []) joins text → text ≡ codes "abc"
+pub made : (text : List ℕ) → Writes (shelf (codes "ab") (codes "c") []) joins text → text ≡ codes "abc"
 made text (texts, all, is) = joined all.0.0 all.1.0.0 is
 
 -- the bytes that were written to standard output

@@ -1,14 +1,14 @@
 -- Examples: one cause of a refusal and two, with the made-up verb of the ends; runs that were done, and replays that are right.
 use Rattle.std.specs.Prelude.{◌≡◌, ℕ, List, [], ◌∷◌, ◌++◌, length, unwrap_or, Option, Some, None, codes, refl}
-use Rattle.std.proofs.Common.{arith, ap, subst, sym}
+use Rattle.std.proofs.Common.{arith, ap, subst, sym, ◌∙◌}
 use Rattle.hood_io.specs.Shelves.{Told}
 use Rattle.hrthood_top.specs.declared.status.Status.TheVariants.{Done}
 use Rattle.hrthood_words.specs.Words.{Command, Sample, command_of}
-use Rattle.hrthood_top.specs.Ends.{Outside, Ends, Refusal, Stopped, TooLong, Cause, Refuses}
-use Rattle.hrthood_top.specs.Exact.{HasOneCause, WritesOrRefuses}
+use Rattle.hrthood_top.specs.Ends.{Outside, Ends, WritesUpTo, Refusal, Stopped, TooLong, Cause, Refuses}
+use Rattle.hrthood_top.specs.Exact.{HasOneCause, WritesOrRefuses, WritesOneText}
 use Rattle.hrthood_top.specs.RightTraces.{IsRightTrace}
 use Rattle.hrthood_top.specs.TwoRuns.{IsDone, IsRightReplay}
-use Rattle.verb_examples.proofs.EndExamples.{shelf, bare, joins, bytes, held, start}
+use Rattle.verb_examples.proofs.EndExamples.{shelf, bare, joins, bytes, held, made, start}
 
 -- of files that are not there no cause stands
 none_stands : (c : Cause joins) → Refuses (bare []) joins c → ⊥
@@ -31,6 +31,26 @@ two_causes one = differ (one (Refusal 1) (Stopped 2) (bytes, held [], refl) (cod
 
 writes_and_refuses : WritesOrRefuses (shelf (codes "ab") (codes "c") []) joins → ⊥
 writes_and_refuses never = never (Refusal 1) (codes "abc") (bytes, held [], refl) (bytes, held [], refl)
+
+-- what it writes of these files is one text, and so is what it writes before it stops
+up_to : (stop : ℕ) (text : List ℕ) → WritesUpTo (shelf (codes "ab") (codes "c") []) joins stop text → text ≡ codes "ab"
+up_to stop text (texts, all, is) = front all.0.0 is.0
+  where
+    front : {d a text : List ℕ} → ◌≡◌ {A = Option (List ℕ)} (Some a) (Some d) → text ≡ d → text ≡ a
+    front e h = cc
+
+one_text : WritesOneText (shelf (codes "ab") (codes "c") []) joins
+one_text = record {
+  done = λ text other h k. made text h ∙ sym (made other k);
+  stopped = λ stop halt text other h k. up_to stop text h ∙ sym (up_to halt other k);
+}
+
+-- verbs that write whatever they like, or do so before they stop
+two_texts : WritesOneText (shelf (codes "ab") (codes "c") []) (record joins { Makes = λ texts made. Unit {0} }) → ⊥
+two_texts one = let e = one.done (codes "a") [] (bytes, held [], tt) (bytes, held [], tt) in cc
+
+two_fronts : WritesOneText (shelf (codes "ab") (codes "c") []) (record joins { Stops = λ texts made count. Unit {0} }) → ⊥
+two_fronts one = let e = one.stopped 0 0 (codes "a") [] (bytes, held [], tt) (bytes, held [], tt) in cc
 
 -- A RUN THAT WAS DONE
 abbrev words : List (List ℕ)

@@ -1,6 +1,6 @@
 -- The laws of what is told: the rounds stay below every vector that meets the equations, so solved rows are the least of them.
 use Rattle.std.specs.Prelude.{◌≡◌, ℕ, zero, suc, ◌+◌, ◌≤◌, ◌<◌, List, [], ◌∷◌, length, take, zip, fold, slice_get, Option, Some, None, refl}
-use Rattle.std.specs.Prelude.{nat_lt, Bool, true, false, option_map}
+use Rattle.std.specs.Prelude.{nat_lt, Bool, true, false, option_map, get_or}
 use Rattle.std.specs.List.{AllZip}
 use Rattle.std.proofs.Common.{sym, ◌∙◌, ap, ap₂, subst, arith, le_refl, ◌⊎◌, inl, inr}
 use Rattle.std.proofs.lemmas.Option.{slice_get_within, slice_get-get_or, slice_get-map}
@@ -15,10 +15,11 @@ use Rattle.rt_response.specs.Rounds.{first_jitter, round, before_round, first_ex
 use Rattle.rt_response.proofs.Shared.Least.{round-below, at_most-refl, miss-none_fits}
 use Rattle.rt_response.proofs.Shared.Solving.{total, IsReached, reached-first, reached-next, reached-least, reached-miss, reached-few}
 use Rattle.rt_response.proofs.Shared.Solving.{round-next, bounds_eq-Decides, bounds_differ}
+use Rattle.late_response.specs.declared.reach.Reach.{Reach}
 use Rattle.late_response.specs.declared.reach.Reach.TheVariants.{Solved, Beyond, Behind}
 use Rattle.late_response.specs.Late.{IsNear, IsFar, OfBoth, Needs, DependsOn, itself, through, IsWithin, IsOver, IsSolved, IsBeyond, IsBehind}
 use Rattle.late_response.specs.Laws.{SolvedIsLeast, HasJitter, AreAbove, SolvedMeetsItsEquation, AreSolved, SolvedInTimeIsLeast}
-use Rattle.late_response.specs.Laws.{LeastIsSolved, BeyondIsLate, ToldOnce}
+use Rattle.late_response.specs.Laws.{LeastIsSolved, BeyondIsLate, ToldOnce, TableToldOnce}
 use Rattle.late_response.specs.Progress.{StartsAt}
 use Rattle.late_response.proofs.Shared.Places.{some-same, some-none, at_most-at, round-long, rounds-rise, round-suc, round-has, starts-within}
 use Rattle.late_response.proofs.Shared.Places.{needs-starts, of-both, from-both}
@@ -419,15 +420,51 @@ given-up-once rows i k m b c h g =
     (λ same. (same, some-same (sym h.told ∙ ap (λ n. slice_get (round rows n) i) same ∙ g.told)))
     (λ more. absurd (over-or-within rows m i (h.followed m more i itself) g.over))
 
+-- a row is behind one starter
+behind-round : (rows : List ThreadRow) (i s t : ℕ) (h : IsBehind rows i s) (g : IsBehind rows i t) → h.round < g.round → ⊥
+behind-round rows i s t h g less = over-or-within rows h.round h.lost.0 (g.followed h.round less h.lost.0 (through h.needs h.lost.1)) h.lost.2
+
+behind-place : (rows : List ThreadRow) (i s t : ℕ) (h : IsBehind rows i s) (g : IsBehind rows i t) → h.round ≡ g.round
+    → h.needs.place < g.needs.place → ⊥
+behind-place rows i s t h g same less =
+    let needs : Needs rows h.needs.place s = record {
+      place = h.needs.place;
+      row = h.needs.row;
+      up = le_refl h.needs.place;
+      is = h.needs.is;
+      started = h.needs.started;
+    } in
+    over-or-within rows h.round h.lost.0
+    (subst (λ m. IsWithin rows m h.lost.0) (sym same) (g.first h.needs.place s less needs h.lost.0 h.lost.1)) h.lost.2
+
+behind-once : (rows : List ThreadRow) (i s t : ℕ) → IsBehind rows i s → IsBehind rows i t → s ≡ t
+behind-once rows i s t h g =
+    let round : h.round ≡ g.round
+    = three (h.round ≡ g.round) h.round g.round (λ less. absurd (behind-round rows i s t h g less)) (λ same. same)
+    (λ more. absurd (behind-round rows i t s g h more)) in
+    let place : h.needs.place ≡ g.needs.place
+    = three (h.needs.place ≡ g.needs.place) h.needs.place g.needs.place (λ less. absurd (behind-place rows i s t h g round less)) (λ same. same)
+    (λ more. absurd (behind-place rows i t s g h (sym round) more)) in
+    let row : h.needs.row ≡ g.needs.row = some-same (sym h.needs.is ∙ ap (λ p. slice_get rows p) place ∙ g.needs.is) in
+    some-same (sym h.needs.started ∙ ap (λ r. r.starter) row ∙ g.needs.started)
+
 pub told-once : ToldOnce
 told-once rows i (Solved j r) (Solved j' r') h g =
-    let same = rests-once rows i _ _ g h in ap (λ b. Solved b.jitter b.response) same
+    let same = rests-once rows i _ _ h g in ap (λ b. Solved b.jitter b.response) same
 told-once rows i (Solved j r) (Beyond k j' r') h g = absurd (solved-not-beyond rows i k _ _ h g)
 told-once rows i (Solved j r) (Behind s) h g = absurd (solved-not-behind rows i s _ h g)
 told-once rows i (Beyond k j r) (Solved j' r') h g = absurd (solved-not-beyond rows i k _ _ g h)
 told-once rows i (Beyond k j r) (Beyond m j' r') h g =
-    let same = given-up-once rows i m k _ _ g h in ap₂ (λ n b. Beyond n b.jitter b.response) same.0 same.1
+    let same = given-up-once rows i k m _ _ h g in ap₂ (λ n b. Beyond n b.jitter b.response) same.0 same.1
 told-once rows i (Beyond k j r) (Behind s) h g = absurd (beyond-not-behind rows i k s _ h g)
 told-once rows i (Behind s) (Solved j r) h g = absurd (solved-not-behind rows i s _ g h)
 told-once rows i (Behind s) (Beyond k j r) h g = absurd (beyond-not-behind rows i k s _ g h)
-told-once rows i (Behind s) (Behind t) h g = tt
+told-once rows i (Behind s) (Behind t) h g = ap (λ z. Behind z) (behind-once rows i s t h g)
+
+-- so one list is told of a table
+pub table-told-once : TableToldOnce
+table-told-once rows found others h g =
+    same-places found others (h.long ∙ sym g.long) (λ i r at.
+    let inside : i < length others = omega (arith, slice_get_within found i r at, h.long, g.long) in
+    let here = slice_get-get_or others i r inside in
+    here ∙ ap (λ z. Some z) (sym (told-once rows i r (get_or others i r) (h.each i r at) (g.each i (get_or others i r) here))))

@@ -86,7 +86,7 @@ starts-within rows place s table starts =
 pub needs-starts : (rows : List ThreadRow) (i s : ℕ) → (needs : Needs rows i s) → StartsAt rows needs.place s
 needs-starts rows i s needs = record { row = needs.row; is = needs.is; started = needs.started }
 
-pub starts-needs : (rows : List ThreadRow) (i place s : ℕ) → place ≤ i → StartsAt rows place s → Needs rows i s
+abbrev pub starts-needs : (rows : List ThreadRow) (i place s : ℕ) → place ≤ i → StartsAt rows place s → Needs rows i s
 starts-needs rows i place s up starts = record { place = place; row = starts.row; up = up; is = starts.is; started = starts.started }
 
 -- a fact of a row and its bound

@@ -1,4 +1,4 @@
-use Rattle.std.proofs.Common.{◌≡◌, ℕ, arith, ap, ◌∙◌, refl, None, below_more}
+use Rattle.std.proofs.Common.{◌≡◌, ℕ, ◌<◌, arith, ap, ◌∙◌, refl, None, below_more}
 use Rattle.std.specs.List.{slice_get}
 use Rattle.std.proofs.lemmas.Option.{get_or_from_slice_get}
 use Rattle.late_response.specs.Progress.{StartsAt, IsLiveIn}
@@ -6,7 +6,7 @@ use Rattle.late_response.proofs.behind.first_behind.Goals as goal
 
 pub rows-preserved : goal.rows-preserved
 rows-preserved c = λ i s less starts.
-    below_more (λ i. (s : ℕ) → StartsAt c.args.table.now i s → IsLiveIn (slice_get c.args.known.now s)) c.rows.index
+    below_more (λ i. (s : ℕ) → StartsAt c.args.table.now i s → IsLiveIn (slice_get c.args.known.now s) × (s < c.args.count)) c.rows.index
     (λ i less s starts. c.rows.invariant i s less starts)
     (λ s starts. c.in_default.ensures.none refl s
     (ap (λ r. r.starter) (get_or_from_slice_get c.args.table.now c.rows.index starts.row

@@ -155,10 +155,10 @@ not_within : IsWithin over 3 1 → ⊥
 not_within h = omega (arith, h.0)
 
 -- the third row needs its starter, and so does each below it
-needs_own : Needs over 2 1
+abbrev needs_own : Needs over 2 1
 needs_own = record { place = 2; row = row 100 1 (Some 1); up = lit≤ tt; is = refl; started = refl }
 
-needs_above : Needs over 3 1
+abbrev needs_above : Needs over 3 1
 needs_above = record { place = 2; row = row 100 1 (Some 1); up = lit≤ tt; is = refl; started = refl }
 
 -- those above it need none, and none needs another
@@ -274,7 +274,7 @@ second_rests : map (λ k. slice_get (round first_late k) 1) (0 ∷ 1 ∷ 2 ∷ 3
     ≡ Some (bound 0 1) ∷ Some (bound 20 21) ∷ Some (bound 20 21) ∷ Some (bound 20 21) ∷ []
 second_rests = refl
 
-second_needs : Needs first_late 1 0
+abbrev second_needs : Needs first_late 1 0
 second_needs = record { place = 1; row = row 1000 1 (Some 0); up = lit≤ tt; is = refl; started = refl }
 
 first_needs_none : (k s : ℕ) → k < 1 → Needs first_late k s → ⊥

@@ -5,3 +5,4 @@ pub mod Reasoned
 pub mod Blocking
 pub mod Least
 pub mod Responses
+pub mod Examples

@@ -103,7 +103,7 @@ function acceptsView(out) {
 
 /** `explain`: what each response time is made up of, also where threads are over their limits. */
 function explainView(out) {
-  const head = out.startsWith("miss ")
+  const head = /^miss /m.test(out)
     ? "A thread is over its limits: the lines late, beyond and behind tell which are, and delayed and blocked what takes them there."
     : "Each thread keeps its limits, and these are the terms of its response time.";
   return [make("p", {}, make("b", {}, head)), linesOf(out.trimEnd().split("\n"))];

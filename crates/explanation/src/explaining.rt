@@ -9,6 +9,7 @@ use crate::finding::find_bounds;
 use crate::reasons::Explanation;
 use crate::threads::{chains_of, downwards, reasons_of};
 use design_bounds::ceilings;
+use late_response::utilisation;
 use ods_tree::Flat;
 use rt_block::{causes_of, facts_of, table};
 use rt_order::order;
@@ -19,7 +20,7 @@ use std::alloc::Global;
 /// bound and what blocks it; the chains of requests; the ceilings. Priorities are by deadlines, and the least is written as `first`.
 ///
 /// Where each thread keeps its limits, its bound is the least. Where a value is over its limit, `late` has the first such value, and each
-/// thread its least bound without limits, as far as ten times them. `NoMemory` comes for want of memory alone.
+/// thread its least bound without limits, as far as ten times them. The utilisation is the exact sum, rounded down to per mille. `NoMemory` comes for want of memory alone.
 pub fn explain(alloc: Global, flat: &Flat, first: u32) -> Result<Explanation, NoMemory>
     requires sound { IsSound (flat_of flat.now) }
     requires first { first ≤ 1000000000 }
@@ -45,5 +46,6 @@ pub fn explain(alloc: Global, flat: &Flat, first: u32) -> Result<Explanation, No
         chains: chains_of(alloc, table.rows.as_slice())?,
         ceilings: ceilings(alloc, flat, &order, first)?,
         late: found.late,
+        utilisation: utilisation(table.rows.as_slice()),
     })
 }

@@ -49,4 +49,6 @@ pub struct Explanation {
     pub chains: Vec<Vec<u32>>,
     /// The ceilings of the protected objects, then of the sporadic ones, as they are written.
     pub ceilings: Vec<CeilingRow>,
+    /// The sum of cost / period of all threads, in per mille, rounded down.
+    pub utilisation: u64,
 }

@@ -5,7 +5,7 @@ use Rattle.analysis.specs.Tables.{table}
 use Rattle.explanation.specs.declared.reasons.Explanation.{Explanation}
 use Rattle.explanation.specs.Explanations.{IsExplanation}
 use Rattle.explanation.specs.Threads.{chains, reasons_of}
-use Rattle.hrthood_top.specs.Explanations.{IsToldOf, explained}
+use Rattle.hrthood_top.specs.Explanations.{IsToldOf, explained, with_utilisation}
 
 pub next-line : {A : Type 0} (f : A → List ℕ) (x : A) (left more : List A) (line before after total : List ℕ) → left ≡ x ∷ more → line ≡ f x
     → after ≡ before ++ line → before ++ flat_map f left ≡ total → after ++ flat_map f more ≡ total
@@ -15,12 +15,16 @@ next-line f x left more line before after total is same grown all =
 
 -- the lines of an explanation are those of the flat design
 pub told-of : (first : ℕ) (f : Flat) (e : Explanation) (lines : List ℕ) → IsExplanation first f e
-    → lines ≡ explained e.late e.threads.items (map (λ c. c.items) e.chains.items) e.ceilings.items → IsToldOf first f lines
+    → lines ≡ with_utilisation e.utilisation (explained e.late e.threads.items (map (λ c. c.items) e.chains.items) e.ceilings.items)
+    → IsToldOf first f lines
 told-of first f e lines h told = record {
   late = e.late;
   found = h.found;
+  per_mille = e.utilisation;
   is_found = h.is_found;
-  told = told ∙ ap (λ ts. explained e.late ts (map (λ c. c.items) e.chains.items) e.ceilings.items) h.threads
+  is_per_mille = h.per_mille;
+  told = told ∙ ap (with_utilisation e.utilisation)
+      (ap (λ ts. explained e.late ts (map (λ c. c.items) e.chains.items) e.ceilings.items) h.threads
       ∙ ap (λ cs. explained e.late (reasons_of first f h.found) cs e.ceilings.items) h.chains
-      ∙ ap (explained e.late (reasons_of first f h.found) (chains (table f).rows)) h.ceilings;
+      ∙ ap (explained e.late (reasons_of first f h.found) (chains (table f).rows)) h.ceilings);
 }

@@ -1,7 +1,7 @@
 -- The verb `explain`: what the bounds of a design are made up of, or what takes its threads over their limits.
 -- The terms are those of the response equations (Audsley et al. 1993; Tindell, Burns and Wellings 1994); the lines are this project's own.
-use Rattle.std.specs.Prelude.{◌≡◌, ℕ, ◌+◌, ◌-◌, ◌*◌, ◌&&◌, Bool, List, [], ◌∷◌, ◌++◌, codes, decimal, flat_map, fold, is_some, nat_le, nat_lt}
-use Rattle.std.specs.Prelude.{slice_get, sum_by, take, Option, Some, None, if◌then◌else◌}
+use Rattle.std.specs.Prelude.{◌≡◌, ℕ, ◌+◌, ◌-◌, ◌*◌, ◌&&◌, Bool, List, [], ◌∷◌, ◌++◌, codes, decimal, flat_map, is_some, nat_le, nat_lt}
+use Rattle.std.specs.Prelude.{slice_get, take, Option, Some, None, if◌then◌else◌}
 use Rattle.std.specs.List.{enumerate_from, list_all}
 use Rattle.seq_tree.specs.Names.{Name}
 use Rattle.ods_tree.specs.Designs as designs
@@ -14,11 +14,13 @@ use Rattle.design_bounds.specs.Rows.{ceiling_rows}
 use Rattle.design_bounds.specs.declared.rows.CeilingRow.{CeilingRow}
 use Rattle.late_response.specs.declared.reach.Reach.{Reach}
 use Rattle.late_response.specs.declared.reach.Reach.TheVariants.{Solved, Beyond, Behind}
+use Rattle.late_response.specs.Utilisation.{utilisation, IsPerMille}
 use Rattle.explanation.specs.declared.delays.Delay.{Delay}
 use Rattle.explanation.specs.declared.reasons.Blocker.{Blocker}
 use Rattle.explanation.specs.declared.reasons.Late.{Late}
 use Rattle.explanation.specs.declared.reasons.Reasons.{Reasons}
 use Rattle.explanation.specs.declared.values.Value.{Value}
+use Rattle.explanation.specs.Chains.{chain_jitter, chain_response}
 use Rattle.explanation.specs.Delays.{delay_by}
 use Rattle.explanation.specs.Findings.{IsFound}
 use Rattle.explanation.specs.Threads.{chains, reasons_of}
@@ -144,28 +146,12 @@ thread_lines ts x = reach_lines ts (take x.0 ts) x.1 x.1.reach
 
 -- THE LINE OF A CHAIN
 
--- the response time and the jitter of a thread, where they are known
-abbrev pub response_in : Option Value → ℕ
-response_in None = 0
-response_in (Some v) = v.response
-
-abbrev pub jitter_in : Option Value → ℕ
-jitter_in None = 0
-jitter_in (Some v) = v.jitter
-
--- the response time of a chain: that of all its threads together
-abbrev pub chain_response : List Reasons → List ℕ → ℕ
-chain_response ts chain = sum_by (λ place. response_in (value_at ts place)) chain
-
--- its jitter: that of its first thread, which stands last
-abbrev pub chain_jitter : List Reasons → List ℕ → ℕ
-chain_jitter ts chain = fold (λ jitter place. jitter_in (value_at ts place)) 0 chain
-
 -- the names of threads, each behind a space
 abbrev pub places_text : List Reasons → List ℕ → List ℕ
 places_text ts places = flat_map (λ place. codes " " ++ name_at ts place) places
 
--- a chain of two threads or more, where all bounds are known: its last thread, and the ones that lead to it
+-- a chain of two threads or more, where all bounds are known: its last thread, with the jitter of the first and what the chain takes, and the
+-- ones that lead to it
 abbrev pub chain_text : List Reasons → ℕ → List ℕ → List ℕ
 chain_text ts place starters =
     codes "chain " ++ (name_at ts place ++ (labelled (codes " jitter ") (chain_jitter ts (place ∷ starters))
@@ -179,6 +165,10 @@ chain_line ts (place ∷ starter ∷ more) =
 
 -- ALL LINES
 
+-- the utilisation in per mille
+abbrev pub utilisation_line : ℕ → List ℕ
+utilisation_line n = labelled (codes "utilisation ") n ++ codes "\n"
+
 -- the first value that is over its limit, where one is
 abbrev pub late_line : Option Late → List ℕ
 late_line None = []
@@ -189,12 +179,18 @@ abbrev pub explained : Option Late → List Reasons → List (List ℕ) → List
 explained late ts cs ceilings =
     late_line late ++ (flat_map (thread_lines ts) (enumerate_from 0 ts) ++ (flat_map (chain_line ts) cs ++ flat_map ceiling_line ceilings))
 
+-- the utilisation in front of these lines where it is over 1000, so that no bounds can be, and else behind them
+abbrev pub with_utilisation : ℕ → List ℕ → List ℕ
+with_utilisation n lines = if nat_lt 1000 n then utilisation_line n ++ lines else lines ++ utilisation_line n
+
 -- the lines of a flat design whose least priority is written as this number
 pub record IsToldOf (first : ℕ) (f : Flat) (lines : List ℕ) : Type 0 where
   pub late : Option Late
   pub found : List Reach
+  pub per_mille : ℕ
   pub is_found : IsFound f found late
-  pub told : lines ≡ explained late (reasons_of first f found) (chains (table f).rows) (ceiling_rows first f)
+  pub is_per_mille : IsPerMille (utilisation (table f).rows) per_mille
+  pub told : lines ≡ with_utilisation per_mille (explained late (reasons_of first f found) (chains (table f).rows) (ceiling_rows first f))
 
 -- bytes of a design that meets the rules, and its lines
 abbrev pub IsExplained : List ℕ → List ℕ → Type 0

@@ -1,10 +1,10 @@
 ghost use Rattle.std.specs.Prelude.{◌≡◌, ◌≤◌, ◌++◌, ◌∷◌, OnOk, is_some, length, map};
 ghost use Rattle.std.specs.List.{list_all};
-ghost use Rattle.hrthood_top.specs.Explanations.{chain_jitter, chain_line, chain_response, chain_text, jitter_in, places_text, response_in};
+ghost use Rattle.hrthood_top.specs.Explanations.{chain_line, chain_text, places_text};
 ghost use Rattle.explanation.specs.Values.{value_at as known_at};
 
 use crate::thread_lines::{add_wide, name_at};
-use explanation::{Reasons, Value, value_at};
+use explanation::{Reasons, chain_jitter, chain_response, value_at};
 use seq_tree::NoMemory;
 
 /// Whether the bounds of the threads at these places are all known.
@@ -19,52 +19,6 @@ fn are_known(threads: &[Reasons], places: &[u32]) -> bool
         left = more;
     }
     true
-}
-
-/// A response time, where it is known.
-fn response_in(value: Option<Value>) -> u64
-    ensures { result ≡ response_in value }
-{
-    match value {
-        None => 0,
-        Some(value) => value.response,
-    }
-}
-
-/// A jitter, where it is known.
-fn jitter_in(value: Option<Value>) -> u64
-    ensures { result ≡ jitter_in value }
-{
-    match value {
-        None => 0,
-        Some(value) => value.jitter,
-    }
-}
-
-/// The response time of a chain: those of its threads together.
-fn chain_response(threads: &[Reasons], chain: &[u32]) -> u128
-    ensures { result ≡ chain_response threads.now chain.now }
-{
-    let mut left = chain;
-    let mut sum = 0;
-    'places: while let Some((place, more)) = left.split_first() {
-        sum += u128::from(response_in(value_at(threads, *place)));
-        left = more;
-    }
-    sum
-}
-
-/// The jitter of a chain: that of its first thread, which stands last.
-fn chain_jitter(threads: &[Reasons], chain: &[u32]) -> u64
-    ensures { result ≡ chain_jitter threads.now chain.now }
-{
-    let mut left = chain;
-    let mut jitter = 0;
-    'places: while let Some((place, more)) = left.split_first() {
-        jitter = jitter_in(value_at(threads, *place));
-        left = more;
-    }
-    jitter
 }
 
 /// Adds the names of threads, each behind a space.
@@ -94,7 +48,7 @@ fn add_chain(
     text.extend_from_slice(b"chain ")?;
     text.extend_from_slice(name_at(threads, place))?;
     add_wide(text, b" jitter ", u128::from(chain_jitter(threads, chain)))?;
-    add_wide(text, b" response ", chain_response(threads, chain))?;
+    add_wide(text, b" response ", u128::from(chain_response(threads, chain)))?;
     text.extend_from_slice(b" by")?;
     add_names(text, threads, starters)?;
     text.extend_from_slice(b"\n")?;

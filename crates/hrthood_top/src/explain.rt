@@ -8,13 +8,13 @@ ghost use Rattle.analysis.specs.Sound.{IsSound};
 ghost use Rattle.bridge.specs.Taking.{RefusesTaking};
 ghost use Rattle.explanation.specs.Threads.{HasPeriod};
 ghost use Rattle.hrthood_top.specs.Analyses.{ceiling_line};
-ghost use Rattle.hrthood_top.specs.Explanations.{chain_line, explained, late_line, IsExplained, IsToldOf};
+ghost use Rattle.hrthood_top.specs.Explanations.{chain_line, explained, late_line, utilisation_line, with_utilisation, IsExplained, IsToldOf};
 ghost use Rattle.hrthood_top.specs.Writing.{IsMade};
 
 use crate::chain_lines::add_chain_line;
 use crate::margin::add_miss;
 use crate::report::add_ceiling;
-use crate::thread_lines::add_threads;
+use crate::thread_lines::{add_threads, add_wide};
 use bridge::{Halt, Untaken, take};
 use design_bounds::CeilingRow;
 use explanation::{Explanation, Late, Reasons, explain as explain_flat};
@@ -61,18 +61,42 @@ fn add_ceilings(text: &mut Vec<u8>, ceilings: &[CeilingRow]) -> Result<(), NoMem
     Ok(())
 }
 
-/// The lines of an explanation.
-fn lines_of(alloc: Global, explanation: &Explanation) -> Result<Vec<u8>, NoMemory>
+/// Adds the utilisation.
+fn add_utilisation(text: &mut Vec<u8>, per_mille: u64) -> Result<(), NoMemory>
+    ensures { OnOk result (text.new.items ≡ text.old.items ++ utilisation_line per_mille) }
+{
+    add_wide(text, b"utilisation ", u128::from(per_mille))?;
+    text.extend_from_slice(b"\n")?;
+    Ok(())
+}
+
+/// Adds the lines of an explanation without the utilisation.
+fn add_explained(text: &mut Vec<u8>, explanation: &Explanation) -> Result<(), NoMemory>
     requires { Each HasPeriod explanation.now.threads.items }
-    ensures { IfOk result (λ v. v.items ≡ explained explanation.now.late explanation.now.threads.items
+    ensures { OnOk result (text.new.items ≡ text.old.items ++ explained explanation.now.late explanation.now.threads.items
         (map (λ c. c.items) explanation.now.chains.items) explanation.now.ceilings.items) }
 {
     let threads = explanation.threads.as_slice();
+    add_late(text, &explanation.late)?;
+    add_threads(text, threads)?;
+    add_chains(text, threads, explanation.chains.as_slice())?;
+    add_ceilings(text, explanation.ceilings.as_slice())
+}
+
+/// The lines of an explanation: the utilisation is the first where it is over 1000, and else the last.
+fn lines_of(alloc: Global, explanation: &Explanation) -> Result<Vec<u8>, NoMemory>
+    requires { Each HasPeriod explanation.now.threads.items }
+    ensures { IfOk result (λ v. v.items ≡ with_utilisation explanation.now.utilisation (explained explanation.now.late
+        explanation.now.threads.items (map (λ c. c.items) explanation.now.chains.items) explanation.now.ceilings.items)) }
+{
     let mut text = Vec::new(alloc);
-    add_late(&mut text, &explanation.late)?;
-    add_threads(&mut text, threads)?;
-    add_chains(&mut text, threads, explanation.chains.as_slice())?;
-    add_ceilings(&mut text, explanation.ceilings.as_slice())?;
+    if explanation.utilisation > 1000 {
+        add_utilisation(&mut text, explanation.utilisation)?;
+        add_explained(&mut text, explanation)?;
+    } else {
+        add_explained(&mut text, explanation)?;
+        add_utilisation(&mut text, explanation.utilisation)?;
+    }
     Ok(text)
 }
 

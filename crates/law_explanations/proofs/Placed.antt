@@ -51,7 +51,7 @@ zip-reaches (p ∷ ps) (row ∷ rows) (r ∷ found) [] h k m = absurd (omega (ar
 zip-reaches (p ∷ ps) (row ∷ rows) (r ∷ found) (y ∷ ys) h k m =
     ap (λ l. r ∷ l) (zip-reaches ps rows found ys (omega (arith, h)) (omega (arith, k)) (omega (arith, m)))
 
-zip-long : {A B : Type 0} (xs : List A) (ys : List B) → length xs ≡ length ys → length (zip xs ys) ≡ length xs
+pub zip-long : {A B : Type 0} (xs : List A) (ys : List B) → length xs ≡ length ys → length (zip xs ys) ≡ length xs
 zip-long [] ys h = refl
 zip-long (x ∷ xs) [] h = absurd (omega (arith, h))
 zip-long (x ∷ xs) (y ∷ ys) h = ap suc (zip-long xs ys (omega (arith, h)))
@@ -69,7 +69,7 @@ module _ (first : ℕ) (f : Flat) (found : List Reach) (long : length found ≡ 
       let right : length (numbered first levels) ≡ length levels = length-map levels _ in
       zip-long (causes f) (numbered first levels) (left ∙ sym right) ∙ left ∙ count-down (length f.threads) ∙ table-long
 
-  found-long : length (zip found (zip (causes f) (numbered first levels))) ≡ length (table f).rows
+  pub found-long : length (zip found (zip (causes f) (numbered first levels))) ≡ length (table f).rows
   found-long = zip-long found (zip (causes f) (numbered first levels)) (long ∙ sym rest-long) ∙ long
 
   -- threads are told of in the order of the rows

@@ -1,7 +1,7 @@
 -- Examples: what is told of threads, the lines of `explain` in each case, and what the verb makes of a design. Each definition holds of a case,
 -- and not without one of its parts.
 use Rattle.std.specs.Prelude.{◌≡◌, ℕ, List, [], ◌∷◌, ◌++◌, map, Option, Some, None, codes, decimal, refl}
-use Rattle.std.proofs.Common.{arith}
+use Rattle.std.proofs.Common.{arith, lit≤}
 use Rattle.seq_tree.specs.Statements.{Work}
 use Rattle.ods_tree.specs.Designs.{Design}
 use Rattle.ods_tree.specs.Flats.{Flat}
@@ -19,10 +19,12 @@ use Rattle.design_bounds.specs.declared.rows.CeilingRow.{CeilingRow}
 use Rattle.late_response.specs.declared.reach.Reach.{Reach}
 use Rattle.late_response.specs.declared.reach.Reach.TheVariants.{Solved, Beyond, Behind}
 use Rattle.late_response.specs.Late.{AreTold}
+use Rattle.late_response.specs.Utilisation.{IsPerMille, utilisation}
 use Rattle.explanation.specs.declared.reasons.Blocker.{Blocker}
 use Rattle.explanation.specs.declared.reasons.Explanation.{Explanation}
 use Rattle.explanation.specs.declared.reasons.Late.{Late}
 use Rattle.explanation.specs.declared.reasons.Reasons.{Reasons}
+use Rattle.explanation.specs.Chains.{chain_jitter, chain_response, lowest_place}
 use Rattle.explanation.specs.Delays.{delay_by}
 use Rattle.explanation.specs.Explanations.{IsExplanation}
 use Rattle.explanation.specs.Findings.{IsFound, solved_of}
@@ -33,7 +35,8 @@ use Rattle.bridge.specs.declared.taking.Untaken.{Untaken}
 use Rattle.hrthood_top.specs.declared.file_kind.FileKind.TheVariants as kind
 use Rattle.hrthood_top.specs.Analyses.{labelled}
 use Rattle.hrthood_top.specs.Checks.{CanCheck, check_line}
-use Rattle.hrthood_top.specs.Explanations.{IsToldOf, explained, explains, reach_lines, chain_line, late_line, name_at}
+use Rattle.hrthood_top.specs.Explanations.{IsToldOf, explained, explains, reach_lines, chain_line, late_line, name_at, utilisation_line}
+use Rattle.hrthood_top.specs.Explanations.{with_utilisation}
 use Rattle.hrthood_top.specs.Files.{Texts}
 
 -- WHAT IS TOLD OF A THREAD
@@ -156,9 +159,22 @@ beyond_separation = refl
 behind : reach_lines ts (s ∷ p ∷ b ∷ []) c c.reach ≡ (limits (codes "behind c") 1 10 10 ++ (costs 2 0 ++ codes " by b\n")) ++ []
 behind = refl
 
--- chains of two, of a thread alone, of none, and one with a thread without a bound
-chain : chain_line ts (0 ∷ 1 ∷ []) ≡ codes "chain s" ++ (labelled (codes " jitter ") 0 ++ (labelled (codes " response ") 35 ++ codes " by p\n"))
+-- a chain of two takes what its thread of lowest priority does: 27, and not the 8 of the other, nor 8 + 27; its jitter is that of its first thread
+chain : chain_line ts (0 ∷ 1 ∷ []) ≡ codes "chain s" ++ (labelled (codes " jitter ") 0 ++ (labelled (codes " response ") 27 ++ codes " by p\n"))
 chain = refl
+
+chain_up : chain_line ts (1 ∷ 0 ∷ []) ≡ codes "chain p" ++ (labelled (codes " jitter ") 27 ++ (labelled (codes " response ") 27 ++ codes " by s\n"))
+chain_up = refl
+
+-- the lowest of three may stand between the others
+lowest_between : lowest_place (0 ∷ 2 ∷ 1 ∷ []) ≡ 2
+lowest_between = refl
+
+-- a thread without a bound gives none
+no_response : (chain_response ts (0 ∷ 2 ∷ []) ≡ 0) × (chain_jitter ts (0 ∷ 2 ∷ []) ≡ 0)
+no_response = (refl, refl)
+
+-- a thread alone, none, and a chain with a thread without a bound have no line
 
 alone : chain_line ts (1 ∷ []) ≡ []
 alone = refl
@@ -183,6 +199,38 @@ no_miss = refl
 
 abbrev ceilings : List CeilingRow
 ceilings = record { name = codes "s"; ceiling = 4 } ∷ []
+
+-- the utilisation in front of other lines from 1001 on, and behind them up to 1000
+utilised : utilisation_line 763 ≡ codes "utilisation " ++ (decimal 763 ++ codes "\n")
+utilised = refl
+
+full : with_utilisation 1000 (codes "x\n") ≡ codes "x\n" ++ utilisation_line 1000
+full = refl
+
+overloaded : with_utilisation 1001 (codes "x\n") ≡ utilisation_line 1001 ++ codes "x\n"
+overloaded = refl
+
+-- of the mine pump: 21/80 + 6/80 + 14/100 + 10/100 + 11/6000 + 15/1000 is 594 and a third per mille
+abbrev mine_rows : List ThreadRow
+mine_rows =
+    row 80 30 21 2 None ∷ row 80 50 6 2 (Some 0) ∷ row 100 60 14 4 None ∷ row 100 100 10 4 None ∷ row 6000 200 11 4 None ∷ row 1000 900 15 0 None ∷ []
+
+mine_utilisation : IsPerMille (utilisation mine_rows) 594
+mine_utilisation = (lit≤ tt, lit≤ tt)
+
+mine_not_593 : IsPerMille (utilisation mine_rows) 593 → ⊥
+mine_not_593 h = omega (arith, h.1)
+
+mine_not_595 : IsPerMille (utilisation mine_rows) 595 → ⊥
+mine_not_595 h = omega (arith, h.0)
+
+-- and its chain: the alarm responds within 29, below the sensor, whose 23 ticks are among them
+abbrev mine_ts : List Reasons
+mine_ts = thread (codes "ch4_sensor") 6 (row 80 30 21 2 None) (Solved 0 23) None ∷ thread (codes "alarm_console") 5 (row 80 50 6 2 (Some 0)) (Solved 23 29) None ∷ []
+
+mine_chain : chain_line mine_ts (1 ∷ 0 ∷ [])
+    ≡ codes "chain alarm_console" ++ (labelled (codes " jitter ") 0 ++ (labelled (codes " response ") 29 ++ codes " by ch4_sensor\n"))
+mine_chain = refl
 
 -- all of them, in their order
 whole : explained (Some late) (b ∷ []) ([] ∷ []) ceilings
@@ -236,8 +284,9 @@ module _ (f : Flat) (found : List Reach) where
 -- an explanation of it
 module _ (first : ℕ) (f : Flat) (e : Explanation) where
   explanation : (found : List Reach) → IsFound f found e.late → e.threads.items ≡ reasons_of first f found
-      → map (λ c. c.items) e.chains.items ≡ chains (table f).rows → e.ceilings.items ≡ ceiling_rows first f → IsExplanation first f e
-  explanation found h t c l = record { found = found; is_found = h; threads = t; chains = c; ceilings = l }
+      → map (λ c. c.items) e.chains.items ≡ chains (table f).rows → e.ceilings.items ≡ ceiling_rows first f
+      → IsPerMille (utilisation (table f).rows) e.utilisation → IsExplanation first f e
+  explanation found h t c l u = record { found = found; is_found = h; threads = t; chains = c; ceilings = l; per_mille = u }
 
   not_found : ((found : List Reach) → IsFound f found e.late → ⊥) → IsExplanation first f e → ⊥
   not_found never h = never h.found h.is_found
@@ -252,18 +301,25 @@ module _ (first : ℕ) (f : Flat) (e : Explanation) where
   other_ceilings : ¬ (e.ceilings.items ≡ ceiling_rows first f) → IsExplanation first f e → ⊥
   other_ceilings never h = never h.ceilings
 
+  other_per_mille : ¬ IsPerMille (utilisation (table f).rows) e.utilisation → IsExplanation first f e → ⊥
+  other_per_mille never h = never h.per_mille
+
 -- its lines
 module _ (first : ℕ) (f : Flat) (lines : List ℕ) where
-  lines_of : (l : Option Late) (found : List Reach) → IsFound f found l
-      → lines ≡ explained l (reasons_of first f found) (chains (table f).rows) (ceiling_rows first f) → IsToldOf first f lines
-  lines_of l found h e = record { late = l; found = found; is_found = h; told = e }
+  lines_of : (l : Option Late) (found : List Reach) (n : ℕ) → IsFound f found l → IsPerMille (utilisation (table f).rows) n
+      → lines ≡ with_utilisation n (explained l (reasons_of first f found) (chains (table f).rows) (ceiling_rows first f)) → IsToldOf first f lines
+  lines_of l found n h u e = record { late = l; found = found; per_mille = n; is_found = h; is_per_mille = u; told = e }
 
   lines_of_nothing : ((l : Option Late) (found : List Reach) → IsFound f found l → ⊥) → IsToldOf first f lines → ⊥
   lines_of_nothing never h = never h.late h.found h.is_found
 
-  other_lines : ((l : Option Late) (found : List Reach) → IsFound f found l
-      → lines ≡ explained l (reasons_of first f found) (chains (table f).rows) (ceiling_rows first f) → ⊥) → IsToldOf first f lines → ⊥
-  other_lines never h = never h.late h.found h.is_found h.told
+  lines_of_no_number : ((n : ℕ) → IsPerMille (utilisation (table f).rows) n → ⊥) → IsToldOf first f lines → ⊥
+  lines_of_no_number never h = never h.per_mille h.is_per_mille
+
+  other_lines : ((l : Option Late) (found : List Reach) (n : ℕ) → IsFound f found l → IsPerMille (utilisation (table f).rows) n
+      → lines ≡ with_utilisation n (explained l (reasons_of first f found) (chains (table f).rows) (ceiling_rows first f)) → ⊥)
+      → IsToldOf first f lines → ⊥
+  other_lines never h = never h.late h.found h.per_mille h.is_found h.is_per_mille h.told
 
 -- THE VERB
 module _ (texts : Texts) where

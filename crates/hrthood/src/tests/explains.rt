@@ -48,12 +48,13 @@ const KEPT: &[&str] = &[
     out: delayed flow_sensor by air_flow window 128 activations 2 ticks 20
     out: delayed flow_sensor by water_handler window 128 activations 1 ticks 11
     out: slack flow_sensor deadline 772 separation 872
-    out: chain alarm_console jitter 0 response 52 by ch4_sensor
+    out: chain alarm_console jitter 0 response 29 by ch4_sensor
     out: ceiling motor 6
     out: ceiling ch4_status 6
     out: ceiling data_logger 4
     out: ceiling water_handler 2
-    out: ceiling alarm_console 6",
+    out: ceiling alarm_console 6
+    out: utilisation 594",
     "name: a chain of three, by falling priorities
     children: OBJECT a IS CYCLIC ATTRIBUTES PERIOD = 100; DEADLINE = 20; THREAD_BUDGET = 1000; REQUIRES b.go; THREAD work (3); b.go; END \
         THREAD; END a; OBJECT b IS SPORADIC ATTRIBUTES SEPARATION = 100; DEADLINE = 40; THREAD_BUDGET = 1000; PROVIDES go ASER; REQUIRES c.go; \
@@ -71,10 +72,11 @@ const KEPT: &[&str] = &[
     out: delayed c by a window 23 activations 1 ticks 8
     out: delayed c by b window 23 activations 1 ticks 9
     out: slack c deadline 37 separation 52
-    out: chain b jitter 0 response 25 by a
-    out: chain c jitter 0 response 48 by b a
+    out: chain b jitter 0 response 17 by a
+    out: chain c jitter 0 response 23 by b a
     out: ceiling b 3
-    out: ceiling c 2",
+    out: ceiling c 2
+    out: utilisation 230",
     "name: a chain of three, by rising priorities
     children: OBJECT a IS CYCLIC ATTRIBUTES PERIOD = 100; DEADLINE = 60; THREAD_BUDGET = 1000; REQUIRES b.go; THREAD work (3); b.go; END \
         THREAD; END a; OBJECT b IS SPORADIC ATTRIBUTES SEPARATION = 100; DEADLINE = 40; THREAD_BUDGET = 1000; PROVIDES go ASER; REQUIRES c.go; \
@@ -94,10 +96,11 @@ const KEPT: &[&str] = &[
     out: delayed a by c window 23 activations 1 ticks 6
     out: delayed a by b window 23 activations 1 ticks 9
     out: slack a deadline 37 separation 77
-    out: chain c jitter 0 response 48 by b a
-    out: chain b jitter 0 response 40 by a
+    out: chain c jitter 0 response 23 by b a
+    out: chain b jitter 0 response 23 by a
     out: ceiling b 2
-    out: ceiling c 3",
+    out: ceiling c 3
+    out: utilisation 230",
     "name: a section inside another
     children: @inner calls
     why: l enters q.set, which enters e.set; the ceiling of q is 1, so e.set blocks, and not q.set
@@ -108,7 +111,8 @@ const KEPT: &[&str] = &[
     out: delayed l by h window 15 activations 1 ticks 5
     out: slack l deadline 25 separation 25
     out: ceiling q 1
-    out: ceiling e 2",
+    out: ceiling e 2
+    out: utilisation 500",
     "name: a control structure
     children: OBJECT s IS SPORADIC ATTRIBUTES SEPARATION = 50; DEADLINE = 20; THREAD_BUDGET = 1000; PROVIDES start ASER; THREAD work (4); END \
         THREAD; END s; OBJECT p IS CYCLIC ATTRIBUTES PERIOD = 50; DEADLINE = 50; THREAD_BUDGET = 1000; REQUIRES s.start; THREAD work (3); \
@@ -121,8 +125,9 @@ const KEPT: &[&str] = &[
     out: thread p priority 1 period 50 deadline 50 jitter 0 cost 8 blocking 0 response 13
     out: delayed p by s window 13 activations 1 ticks 5
     out: slack p deadline 37 separation 37
-    out: chain s jitter 0 response 20 by p
-    out: ceiling s 2",
+    out: chain s jitter 0 response 13 by p
+    out: ceiling s 2
+    out: utilisation 260",
     "name: a chain that is requested from outside
     children: OBJECT s IS SPORADIC ATTRIBUTES SEPARATION = 60; DEADLINE = 10; THREAD_BUDGET = 1000; ARRIVAL_JITTER = 7; PROVIDES press ASER; \
         REQUIRES t.go; THREAD work (2); t.go; END THREAD; END s; OBJECT t IS SPORADIC ATTRIBUTES SEPARATION = 60; DEADLINE = 30; THREAD_BUDGET \
@@ -133,9 +138,10 @@ const KEPT: &[&str] = &[
     out: started t by s jitter 7 response 7
     out: delayed t by s window 12 activations 1 ticks 7
     out: slack t deadline 18 separation 34
-    out: chain t jitter 7 response 19 by s
+    out: chain t jitter 7 response 12 by s
     out: ceiling s 2
-    out: ceiling t 2",
+    out: ceiling t 2
+    out: utilisation 200",
     "name: two lower threads with equal sections, of which the first in the design is told
     children: OBJECT q IS PROTECTED PROVIDES set PAER; OPERATION set IS BEGIN work (2); END set; END q; OBJECT z IS CYCLIC ATTRIBUTES PERIOD = \
         50; DEADLINE = 50; THREAD_BUDGET = 1000; REQUIRES q.set; THREAD q.set; END THREAD; END z; OBJECT y IS CYCLIC ATTRIBUTES PERIOD = 40; \
@@ -152,7 +158,8 @@ const KEPT: &[&str] = &[
     out: delayed z by h window 15 activations 1 ticks 5
     out: delayed z by y window 15 activations 1 ticks 5
     out: slack z deadline 35 separation 35
-    out: ceiling q 3",
+    out: ceiling q 3
+    out: utilisation 475",
     "name: priorities and ceilings from 31 on
     head: TICK = 1 ms; PRIORITIES 31 .. 60;
     root: OBJECT r IS ACTIVE OBJECTS OBJECT p IS CYCLIC ATTRIBUTES PERIOD = 50; DEADLINE = 50; THREAD_BUDGET = 1000; REQUIRES s.start; \
@@ -165,10 +172,12 @@ const KEPT: &[&str] = &[
     out: thread p priority 31 period 50 deadline 50 jitter 0 cost 5 blocking 0 response 10
     out: delayed p by s window 10 activations 1 ticks 5
     out: slack p deadline 40 separation 40
-    out: chain s jitter 0 response 17 by p
-    out: ceiling s 32",
+    out: chain s jitter 0 response 10 by p
+    out: ceiling s 32
+    out: utilisation 200",
     "name: no thread and no protected object
-    root: OBJECT q IS PASSIVE PROVIDES f; OPERATION f IS BEGIN null; END f; END q;",
+    root: OBJECT q IS PASSIVE PROVIDES f; OPERATION f IS BEGIN null; END f; END q;
+    out: utilisation 0",
 ];
 
 /// Designs that don't: the first value over its limit, and all threads with their response times without limits, as far as ten times them.
@@ -187,7 +196,8 @@ const LATE: &[&str] = &[
     out: thread c priority 1 period 20 deadline 20 jitter 0 cost 6 blocking 0 response 21
     out: delayed c by a window 21 activations 3 ticks 9
     out: delayed c by b window 21 activations 2 ticks 6
-    out: late c deadline 1 separation 1",
+    out: late c deadline 1 separation 1
+    out: utilisation 978",
     "name: a thread that is late by its jitter, and the one that starts it
     children: OBJECT s IS SPORADIC ATTRIBUTES SEPARATION = 20; DEADLINE = 10; THREAD_BUDGET = 1000; PROVIDES start ASER; THREAD work (5); END \
         THREAD; END s; OBJECT p IS CYCLIC ATTRIBUTES PERIOD = 20; DEADLINE = 20; THREAD_BUDGET = 1000; REQUIRES s.start; THREAD work (4); \
@@ -201,13 +211,15 @@ const LATE: &[&str] = &[
     out: thread p priority 1 period 20 deadline 20 jitter 0 cost 9 blocking 0 response 27
     out: delayed p by s window 27 activations 3 ticks 18
     out: late p deadline 7 separation 7
-    out: chain s jitter 0 response 35 by p
-    out: ceiling s 2",
+    out: chain s jitter 0 response 27 by p
+    out: ceiling s 2
+    out: utilisation 750",
     "name: a thread over ten times its deadline, and two that need its response time
     children: OBJECT a IS CYCLIC ATTRIBUTES PERIOD = 10; DEADLINE = 10; THREAD_BUDGET = 1000; THREAD work (8); END THREAD; END a; OBJECT b IS \
         CYCLIC ATTRIBUTES PERIOD = 10; DEADLINE = 10; THREAD_BUDGET = 1000; REQUIRES c.go; THREAD work (7); c.go; END THREAD; END b; OBJECT c \
         IS SPORADIC ATTRIBUTES SEPARATION = 10; DEADLINE = 5; THREAD_BUDGET = 1000; PROVIDES go ASER; THREAD work (1); END THREAD; END c;
     why: the values of b are 12, 34, 58, 86 and 123; the jitter of c is the response of b, and delays a
+    out: utilisation 2300
     out: miss U1 a value 11 limit 10 round 0
     out: behind c priority 3 period 10 deadline 5 cost 2 blocking 2 by b
     out: blocked c by b in c.go ticks 2
@@ -227,14 +239,16 @@ const LATE: &[&str] = &[
     out: thread p priority 1 period 100 deadline 100 jitter 0 cost 40 blocking 0 response 80
     out: delayed p by c window 80 activations 20 ticks 40
     out: slack p deadline 20 separation 20
-    out: ceiling c 2",
+    out: ceiling c 2
+    out: utilisation 650",
     "name: a miss in round 0
     root: OBJECT s IS SPORADIC ATTRIBUTES SEPARATION = 10; DEADLINE = 10; THREAD_BUDGET = 1000; ARRIVAL_JITTER = 6; PROVIDES start ASER; THREAD \
         work (4); END THREAD; END s;
     out: miss U2 s value 11 limit 10 round 0
     out: thread s priority 1 period 10 deadline 10 jitter 6 cost 5 blocking 0 response 5
     out: late s deadline 0 separation 1
-    out: ceiling s 1",
+    out: ceiling s 1
+    out: utilisation 500",
 ];
 
 #[test]

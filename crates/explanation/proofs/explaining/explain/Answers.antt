@@ -10,6 +10,7 @@ use Rattle.rt_block.specs.Causes.{cause_of}
 use Rattle.rt_block.specs.Designs.{design_of}
 use Rattle.design_bounds.proofs.Shared.RankLaws.{small-ranked}
 use Rattle.design_bounds.proofs.Shared.TablePlaces.{ranks-long}
+use Rattle.late_response.specs.Utilisation.{IsPerMille, utilisation}
 use Rattle.explanation.specs.Threads.{HasPeriod}
 use Rattle.explanation.proofs.ExplainSteps.{chains-are, periods, reasons-are, table-is}
 use Rattle.explanation.proofs.explaining.explain.Goals as goal
@@ -46,6 +47,13 @@ chains_of-requires c =
 pub ceilings-requires-clause-small : goal.ceilings-requires-clause-small
 ceilings-requires-clause-small c = small-ranked (flat_of c.args.flat.now) (ranks_of c.in_ok-order.order) c.requires.sound c.in_ok-order.ensures
 
+pub utilisation-requires : goal.utilisation-requires
+utilisation-requires c =
+    let f = flat_of c.args.flat.now in
+    let same = table-is c.args.first f (design_of c.in_ok-facts.facts) (ranks_of c.in_ok-order.order) (table_of c.in_ok-table.table) c.in_ok-facts.ensures
+    c.in_ok-order.ensures c.in_ok-table.ensures in
+    rw (c.as_slice-5.ensures.value, ap (λ (t : ThreadTable). t.rows) same) (sound-table f c.requires.sound)
+
 pub returns-clause-told : goal.returns-clause-told
 returns-clause-told c =
     let f = flat_of c.args.flat.now in
@@ -62,6 +70,9 @@ returns-clause-told c =
       chains = chains-are c.args.first f g r t c.in_ok-facts.ensures c.in_ok-order.ensures c.in_ok-table.ensures _ _ c.as_slice-4.ensures.value
           c.in_ok-chains_of.ensures;
       ceilings = search rules;
+      per_mille = subst (λ rows. IsPerMille (utilisation rows) c.utilisation.result)
+          (c.as_slice-5.ensures.value ∙ ap (λ (t : ThreadTable). t.rows)
+          (table-is c.args.first f g r t c.in_ok-facts.ensures c.in_ok-order.ensures c.in_ok-table.ensures)) c.utilisation.ensures;
     }
 
 pub returns-clause-periods : goal.returns-clause-periods

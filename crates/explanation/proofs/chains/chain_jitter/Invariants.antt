@@ -1,7 +1,7 @@
 use Rattle.std.proofs.Common.{◌≡◌, fold, length}
 use Rattle.explanation.specs.Values.{value_at}
-use Rattle.hrthood_top.specs.Explanations.{jitter_in}
-use Rattle.hrthood_top.proofs.chain_lines.chain_jitter.Given as goal
+use Rattle.explanation.specs.Chains.{jitter_in}
+use Rattle.explanation.proofs.chains.chain_jitter.Given as goal
 
 -- the jitter so far, and what is left
 abbrev pub invariant-places : goal.invariant-places

@@ -1,5 +1,6 @@
 -- That the verb `explain` refuses a design for one reason, and none that meets the rules, and writes one text.
-use Rattle.std.proofs.Common.{◌≡◌, ℕ, List, map, Option, Some, None, refl, sym, ap, subst, ◌∙◌}
+use Rattle.std.proofs.Common.{◌≡◌, ℕ, ◌+◌, ◌*◌, ◌≤◌, ◌<◌, List, map, Option, Some, None, refl, sym, ap, subst, ◌∙◌, arith}
+use Rattle.std.proofs.Math.Nat.{mul-le-mul_right}
 use Rattle.ods_tree.specs.Designs as designs
 use Rattle.ods_tree.specs.Flats.{Flat}
 use Rattle.ods_tree.specs.Flattening.{flat}
@@ -9,13 +10,14 @@ use Rattle.rt_response.specs.declared.rows.Miss as rows
 use Rattle.design_bounds.specs.Analyses.{IsMissed}
 use Rattle.design_bounds.specs.Rows.{ceiling_rows, name_of_row}
 use Rattle.late_response.specs.declared.reach.Reach.{Reach}
+use Rattle.late_response.specs.Utilisation.{Fraction, IsPerMille, utilisation}
 use Rattle.late_response.proofs.Shared.LateLaws.{table-told-once}
 use Rattle.explanation.specs.declared.reasons.Late.{Late}
 use Rattle.explanation.specs.Findings.{IsFound, solved_of}
 use Rattle.explanation.specs.Threads.{chains, reasons_of}
-use Rattle.law_backgrounds.proofs.Shared.FirstFaults.{one-at}
+use Rattle.law_backgrounds.proofs.Shared.FirstFaults.{no-less, one-at}
 use Rattle.hrthood_top.specs.Checks.{CanCheck}
-use Rattle.hrthood_top.specs.Explanations.{IsExplained, IsToldOf, explained, of_explain}
+use Rattle.hrthood_top.specs.Explanations.{IsExplained, IsToldOf, explained, with_utilisation, of_explain}
 use Rattle.hrthood_top.proofs.GenerateLaws.{one_least}
 use Rattle.hrthood_top.proofs.OneDesign.{not-untaken, one-untaken}
 use Rattle.hrthood_top.proofs.OneRule.{one-miss}
@@ -51,12 +53,23 @@ one_found f found others (Some a) (Some b) h k = record {
   lates = ap Some (one_late f a b h.0 k.0);
 }
 
+-- a fraction is one number of per mille
+not_below : (f : Fraction) (n m : ℕ) → IsPerMille f n → IsPerMille f m → n < m → ⊥
+not_below f n m h k less =
+    let up : (n + 1) * f.under ≤ m * f.under = mul-le-mul_right f.under (omega (arith, less)) in
+    let high = h.1 in let low = k.0 in omega (arith, up, high, low)
+
+one_per_mille : (f : Fraction) (n m : ℕ) → IsPerMille f n → IsPerMille f m → n ≡ m
+one_per_mille f n m h k = no-less n m (not_below f n m h k) (not_below f m n k h)
+
 one_told : (first : ℕ) (f : Flat) (x y : List ℕ) → IsToldOf first f x → IsToldOf first f y → x ≡ y
 one_told first f x y h k =
     let same = one_found f h.found k.found h.late k.late h.is_found k.is_found in
+    let n : h.per_mille ≡ k.per_mille = one_per_mille (utilisation (table f).rows) h.per_mille k.per_mille h.is_per_mille k.is_per_mille in
     h.told
-    ∙ ap (λ late. explained late (reasons_of first f h.found) (chains (table f).rows) (ceiling_rows first f)) same.lates
-    ∙ ap (λ found. explained k.late (reasons_of first f found) (chains (table f).rows) (ceiling_rows first f)) same.founds
+    ∙ ap (λ n. with_utilisation n (explained h.late (reasons_of first f h.found) (chains (table f).rows) (ceiling_rows first f))) n
+    ∙ ap (λ late. with_utilisation k.per_mille (explained late (reasons_of first f h.found) (chains (table f).rows) (ceiling_rows first f))) same.lates
+    ∙ ap (λ found. with_utilisation k.per_mille (explained k.late (reasons_of first f found) (chains (table f).rows) (ceiling_rows first f))) same.founds
     ∙ sym k.told
 
 one_text : (bytes x y : List ℕ) → IsExplained bytes x → IsExplained bytes y → x ≡ y

@@ -10,12 +10,11 @@ from __future__ import annotations
 
 import re
 from dataclasses import dataclass, field
-from decimal import Decimal
+from fractions import Fraction
 from typing import Dict, List, Union
 
 TOKEN = re.compile(r'\s+|--[^\n]*|(?P<arrow>=>)|(?P<mark>[(),;])|"(?P<text>[^"\n]*)"|(?P<word>[\w.+-]+)')
 NUMBER = re.compile(r'[+]?\d+(\.\d*)?([eE][+-]?\d+)?')
-SERVED = ('activity',)
 
 
 class Fault(Exception):
@@ -32,11 +31,11 @@ class Word:
     text: str
     line: int
 
-    def number(self) -> Decimal:
+    def number(self) -> Fraction:
         """The number that it is."""
         if not NUMBER.fullmatch(self.text):
             raise Fault(self.line, f'{self.text} is not a number')
-        return Decimal(self.text)
+        return Fraction(self.text)
 
 
 @dataclass
@@ -56,9 +55,9 @@ class Element:
         """The text of a word, or this one if there is none."""
         return default if default is not None and name not in self.values else self.word(name).text
 
-    def number(self, name: str, default: int | None = None) -> Decimal:
+    def number(self, name: str, default: int | None = None) -> Fraction:
         """The number of an attribute, or this one if there is none."""
-        return Decimal(default) if default is not None and name not in self.values else self.word(name).number()
+        return Fraction(default) if default is not None and name not in self.values else self.word(name).number()
 
     def elements(self, name: str) -> list[Element]:
         """The elements of an attribute: of a list, or a single one."""
@@ -146,7 +145,7 @@ class Section:
     """A time in which a resource is held, in an operation."""
     resource: str
     operation: str
-    time: Decimal
+    time: Fraction
 
 
 @dataclass
@@ -156,11 +155,11 @@ class Task:
     line: int
     priority: int
     is_periodic: bool
-    period: Decimal
-    jitter: Decimal
-    phase: Decimal
-    deadline: Decimal
-    cost: Decimal
+    period: Fraction
+    jitter: Fraction
+    phase: Fraction
+    deadline: Fraction
+    cost: Fraction
     sections: list[Section]
     starter: str | None
 
@@ -242,12 +241,12 @@ class System:
             raise Fault(server_name.line, f'the server {server_name.text} has a second activity')
         cost, sections = self.cost(handler.word('activity_operation'))
         task = Task(server_name.text, handler.line, int(policies[0].number('the_priority')), kind == 'periodic', period.number(),
-                    event.number('max_jitter', 0) if starter is None else Decimal(0), event.number('phase', 0),
+                    event.number('max_jitter', 0) if starter is None else Fraction(0), event.number('phase', 0),
                     self.deadline(transaction, event, handler, period.number()), cost, sections, starter)
         self.tasks[task.name] = task
         return task
 
-    def deadline(self, transaction: Element, event: Element, handler: Element, period: Decimal) -> Decimal:
+    def deadline(self, transaction: Element, event: Element, handler: Element, period: Fraction) -> Fraction:
         """The deadline of an activity after its release, which is the period if there is none."""
         for output in transaction.elements('internal_events'):
             if output.text('name') != handler.text('output_event'):
@@ -259,12 +258,12 @@ class System:
                 raise Fault(wanted.line, f'a {wanted.text("type")} that does not count from the release of its activity is not read')
         return period
 
-    def cost(self, name: Word) -> tuple[Decimal, list[Section]]:
+    def cost(self, name: Word) -> tuple[Fraction, list[Section]]:
         """The cost of an operation and its sections."""
         operation = self.find('operation', name)
         steps = self.steps(name, 0)
-        sections, now = [], Decimal(0)
-        held: dict[str, tuple[Decimal, Word]] = {}
+        sections, now = [], Fraction(0)
+        held: dict[str, tuple[Fraction, Word]] = {}
         for step in steps:
             one = self.find('operation', step)
             both = one.words('shared_resources_list')
@@ -297,15 +296,15 @@ class System:
             raise Fault(name.line, 'an enclosing operation inside another one is not read')
         return [step for one in operation.words('composite_operation_list') for step in self.steps(one, depth + 1)]
 
-    def blocking(self, task: Task) -> Decimal:
+    def blocking(self, task: Task) -> Fraction:
         """The longest section by which a task of lower priority delays a task."""
         return max((one.time for other in self.tasks.values() if other.priority < task.priority
-                    for one in other.sections if self.resources[one.resource] >= task.priority), default=Decimal(0))
+                    for one in other.sections if self.resources[one.resource] >= task.priority), default=Fraction(0))
 
-    def responses(self) -> dict[str, tuple[Decimal, Decimal]] | None:
+    def responses(self) -> dict[str, tuple[Fraction, Fraction]] | None:
         """Jitter and response of each task by the equations, and None if one passes its period."""
         found = {task.name: (task.jitter, task.cost) for task in self.tasks.values()}
-        before: dict[str, tuple[Decimal, Decimal]] = {}
+        before: dict[str, tuple[Fraction, Fraction]] = {}
         while before != found:
             before = dict(found)
             for task in self.tasks.values():
@@ -313,8 +312,8 @@ class System:
                 above = [other for other in self.tasks.values() if other.priority >= task.priority and other is not task]
                 response = found[task.name][1]
                 response = task.cost + self.blocking(task) + sum(
-                    (-(-(response + found[other.name][0]) // other.period) * other.cost for other in above), Decimal(0))
+                    (-(-(response + found[other.name][0]) // other.period) * other.cost for other in above), Fraction(0))
                 if jitter + response > task.period:
                     return None
-                found[task.name] = (Decimal(jitter), response)
+                found[task.name] = (Fraction(jitter), response)
         return found

@@ -27,11 +27,11 @@ from typing import Iterator
 from exported import Names
 from mast import Fault, Section, System, Task
 
-RESERVED = '''end provides requires data operation thread objects implements begin is null if then elsif else for in out loop exit when range mod and or
-xor not word work put hrt activation_end boolean true false ada standard system abort abs abstract accept access aliased all array at body case
+RESERVED = '''end provides requires data operation thread objects implements begin is null if then elsif else for in out loop exit when range mod and
+or xor not word work put hrt activation_end boolean true false ada standard system abort abs abstract accept access aliased all array at body case
 constant declare delay delta digits do entry exception function generic goto interface limited new of others overriding package pragma private
 procedure protected raise record rem renames requeue return reverse select separate some subtype synchronized tagged task terminate type until use
-while with xor design version costs object attributes'''
+while with design version costs object attributes'''
 ENDED = 1       # FINISH
 CALLED = 1      # CALL
 TESTED = 1      # TEST
@@ -71,7 +71,8 @@ class Skeleton:
 
     def assign_cost(self) -> int:
         """Half of what a request takes inside a control structure, and 1 if the file doesn't say."""
-        times = {(self.ticks(one.time, task.line), task.line) for task in self.by_priority for one in task.sections if one.resource in self.requested}
+        requests = [(one.time, task.line) for task in self.by_priority for one in task.sections if one.resource in self.requested]
+        times = {(self.ticks(time, line), line) for time, line in requests}
         if len({ticks for ticks, _ in times}) > 1 or any(ticks % 2 or not ticks for ticks, _ in times):
             raise Fault(min(line for _, line in times), 'the requests don\'t take one even number of ticks')
         return min((ticks for ticks, _ in times), default=2) // 2

@@ -22,11 +22,11 @@ from typing import Iterator
 
 from exported import Names, Resource, Section, System, Task, main_of
 
-RESERVED = '''aadlboolean aadlinteger aadlreal aadlstring abstract access all and annex applies binding bus calls classifier compute connections constant
-data delta device end enumeration event extends false feature features flow flows group implementation in inherit initial inverse is list memory mode
-modes none not of or out package parameter path port private process processor properties property prototypes provides public range record reference
-refined renames requires self set sink source subcomponents subprogram system thread to true type units virtual with application requested hrt_software
-hrt_processor hrt_system'''
+RESERVED = '''aadlboolean aadlinteger aadlreal aadlstring abstract access all and annex applies binding bus calls classifier compute connections
+constant data delta device end enumeration event extends false feature features flow flows group implementation in inherit initial
+inverse is list memory mode modes none not of or out package parameter path port private process processor properties property
+prototypes provides public range record reference refined renames requires self set sink source subcomponents subprogram system
+thread to true type units virtual with application requested sequence'''
 
 
 class Writer:

@@ -3,11 +3,11 @@
 
     to_cheddar.py DESIGN >FILE
 
-One unit of time is a tick. Each thread is a periodic or sporadic task with its priority, period, deadline, offset, jitter and blocking time; the jitter
-of a thread that another one requests is that of the bounds, so no precedence is written. Each protected object, and each control structure of a
-sporadic object that is requested, is a resource with the immediate ceiling protocol and its ceiling, with a critical section for each operation in
-which a task holds it. The lengths of sections are those of the design; where they begin in an activation is schematic: one after another, and from the
-end back if they are in branches that exclude each other.
+One unit of time is a tick. Each thread is a periodic or sporadic task with its priority, period, deadline, offset, jitter and blocking time; the
+jitter of a thread that another one requests is that of the bounds, so no precedence is written. Each protected object, and each control structure of
+a sporadic object that is requested, is a resource with the immediate ceiling protocol and its ceiling, with a critical section for each operation in
+which a task holds it. The lengths of sections are those of the design; where they begin in an activation is schematic: one after another, and as
+late as they fit if they are in branches that exclude each other.
 
 Not carried over: the tree of objects, passive operations, data, budgets and who requests whom.
 

@@ -4,10 +4,10 @@
     to_mast.py DESIGN >FILE
 
 One unit of time is a tick. A thread is a scheduling server with its priority and an enclosing operation with its cost and its sections; a protected
-object, or the control structure of a sporadic object, is an immediate ceiling resource. A cyclic thread has a periodic event with its OFFSET as phase.
-A thread that is requested from outside has a sporadic event, or with ARRIVAL_JITTER a periodic one with that jitter, since sporadic events of MAST
-have none: the worst case is the same. A thread that another thread requests follows it in the transaction of that one. If its SEPARATION is not the
-period of the starter, it has a transaction of its own, with the jitter that the program computed, and a comment says so.
+object, or the control structure of a sporadic object, is an immediate ceiling resource. A cyclic thread has a periodic event with its OFFSET as
+phase. A thread that is requested from outside has a sporadic event, or with ARRIVAL_JITTER a periodic one with that jitter, since sporadic events of
+MAST have none: the worst case is the same. A thread that another thread requests follows it in the transaction of that one. If its SEPARATION is
+not the period of the starter, it has a transaction of its own, with the jitter that the program computed, and a comment says so.
 
 Not carried over: the tree of objects, passive operations, data, budgets, and where in an activation sections and requests are.
 
@@ -119,7 +119,8 @@ class Writer:
     def handlers_of(self, task: Task) -> Iterator[str]:
         """The handlers of a task: its activity, and the one that releases several tasks."""
         followers = [other for other in self.system.started_by(task.name) if not self.is_first(other)]
-        yield (f'      (Type => Activity,\n       Input_Event => {self.input_of(task)},\n       Output_Event => {self.names.of(task.name, "ended")},\n'
+        yield (f'      (Type => Activity,\n       Input_Event => {self.input_of(task)},\n'
+               f'       Output_Event => {self.names.of(task.name, "ended")},\n'
                f'       Activity_Operation => {self.names.of(task.name, "body")},\n       Activity_Server => {self.names.of(task.name)})')
         if len(followers) > 1:
             outputs = ', '.join(self.names.of(other.name, 'released') for other in followers)

@@ -184,6 +184,7 @@ class Skeleton:
             yield from (f'    {text};' for text, _ in calls)
             yield '  END THREAD;'
             return
+        calls = sorted(calls, key=lambda call: -call[1])
         rest = cost - TESTED * len(calls)
         if rest < 1 or any(TESTED * number + ticks > cost for number, (_, ticks) in enumerate(calls, 1)):
             raise Fault(task.line, f'{task.name} costs less than its calls and its end; give more --ticks')

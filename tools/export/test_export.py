@@ -484,7 +484,7 @@ class ByTheProgram(unittest.TestCase):
         """Another number in a text is found by its reader."""
         readers: tuple[tuple[str, Callable[[str], Facts], tuple[tuple[str, str], ...]], ...] = (
                 ('to_aadl.py', facts_of_aadl, (('.. 4 us', '.. 5 us'), ('=> 6000 us', '=> 6001 us'), ('Priority => 4', 'Priority => 3'))),
-                ('to_cheddar.py', facts_of_cheddar, (('<task_begin>5</task_begin>\n          <task_end>6<', '<task_begin>4</task_begin>\n          <task_end>6<'), ('<jitter>23<', '<jitter>24<'),
+                ('to_cheddar.py', facts_of_cheddar, (('<task_begin>5</task_begin>', '<task_begin>4</task_begin>'), ('<jitter>23<', '<jitter>24<'),
                                                      ('<capacity>21<', '<capacity>22<'))),
                 ('to_json.py', facts_of_json, (('"ticks": 4', '"ticks": 5'), ('"started_by": "ch4_sensor"', '"started_by": null'),
                                                ('"ceiling": 4', '"ceiling": 5'))))
@@ -495,13 +495,12 @@ class ByTheProgram(unittest.TestCase):
             for before, after in changes:
                 self.assertIn(before, text)
                 with self.assertRaises(AssertionError, msg=before):
-                    compare(reader(text.replace(before, after, 1)), self.wanted['mine_pump'])
+                    compare(reader(text.replace(before, after)), self.wanted['mine_pump'])
 
     def test_round_trip(self) -> None:
-        """A skeleton of what to_mast.py writes has the same bounds, up to the least priority, and has the same starters, and ceilings of the objects that block."""
+        """A skeleton of what to_mast.py writes has the same bounds, starters, and ceilings of the objects that block, up to the least priority. Of a
+        design of which a thread has a transaction of its own, as its separation is not the period of its starter, it has the same costs."""
         for name, text, wanted in self.texts('to_mast.py'):
-            if name == 'awkward':
-                continue
             file, back = (os.path.join(self.room.name, 'back.' + kind) for kind in ('mast', 'design'))
             with open(file, 'w', encoding='utf-8') as stream:
                 stream.write(text)
@@ -510,6 +509,10 @@ class ByTheProgram(unittest.TestCase):
             with open(back, 'w', encoding='utf-8') as stream:
                 stream.write(out)
             found = facts_of_program(back)
+            if 'is requested by' in text:
+                self.assertEqual({named(key): own['cost'] for key, own in found.threads.items()},
+                                 {key: own['cost'] for key, own in wanted.threads.items()}, name)
+                continue
             least = min(own['priority'] for own in wanted.threads.values()) - 1
             self.assertEqual({named(key): value for key, value in found.threads.items()},
                              {key: {**own, 'priority': own['priority'] - least} for key, own in wanted.threads.items()}, name)

@@ -5,12 +5,13 @@
 
 A link is a request if the first thread starts the second (docs/CHAINS.md). Otherwise it is data: the first thread calls, directly or through other
 operations, an operation that assigns a datum of a protected object, and the second one calls an operation that reads it, and is cyclic. A run of
-requests is one segment. The table has a row for each segment: the datum by which it is reached and the two operations, the period of its first thread
-if it is reached by data, its response, and what it adds. Below it are the sums. Times are in ticks, and in microseconds for a design with TICK.
+requests is one segment. The table has a row for each segment: the datum by which it is reached and the two operations, how long the data may wait
+for the reader's release, its response, and what it adds. Below it are the sums. Times are in ticks, and in microseconds for a design with TICK.
 
 A segment reached by data adds period and response of its reader (Davare et al. 2007): the value is in place when the activation that writes it ends,
-the reader's next release comes at most a period later, and its segment responds. The first segment adds its response alone, from the release of its
-first thread; a change outside that this thread reads may come right after its reading, so that its period is to be added.
+the reader's next release comes at most a period later (or at its OFFSET, if that is more), and its segment responds. The first segment adds its
+response alone, from the release of its first thread; a change outside that this thread reads may come right after its reading, so that its period is
+to be added.
 
 What is proved, by the program: the response of each thread, and that a segment responds within the response of its thread of lowest priority
 (`law_chain_bounds`). Not proved: this script, which finds the data by reading what `format` writes, and adds periods and responses. Assumed: each
@@ -33,7 +34,7 @@ from typing import Dict, Iterator, List, Set, Tuple
 from design_reader import Design, Object, Operation
 
 TOP = os.path.dirname(os.path.dirname(os.path.dirname(os.path.abspath(__file__))))
-THREAD = re.compile(r'thread (\w+) priority (\d+) period (\d+) deadline \d+ jitter (\d+) cost \d+ blocking \d+ response (\d+)')
+THREAD = re.compile(r'thread (\w+) priority (\d+) period (\d+) deadline \d+ jitter \d+ cost \d+ blocking \d+ response (\d+)')
 STARTED = re.compile(r'started (\w+) by (\w+) ')
 CHAIN = re.compile(r'chain (\w+) jitter \d+ response (\d+) by (.+)')
 DATUM = re.compile(r'(\w+) : word := \d+;')
@@ -55,7 +56,6 @@ class Bound:
     """The numbers of a thread that `explain` writes."""
     priority: int
     period: int
-    jitter: int
     response: int
 
 
@@ -209,18 +209,19 @@ class Chains:
             raise Refused(f'the chain line of {segment.threads[-1]} has another sum than this script')
         return whole
 
-    def period(self, segment: Segment) -> int:
-        """The period by which the reader of a segment may be released later than the data is written; 0 of the first segment."""
-        return self.bounds[segment.threads[0]].period if segment.datum else 0
+    def wait(self, segment: Segment) -> int:
+        """How much later than the data is written the reader of a segment may be released; 0 for the first segment."""
+        first = segment.threads[0]
+        return max(self.bounds[first].period, self.design.by_name[first].attributes.get('OFFSET', 0)) if segment.datum else 0
 
     def row(self, segment: Segment) -> Tuple[str, ...]:
         """The row of a segment."""
         through = '.'.join(segment.datum) if segment.datum else ''
         if segment.writes and segment.reads:
             through += f': {".".join(segment.writes)}; {".".join(segment.reads)}'
-        period, response = self.period(segment), self.response(segment)
-        return (' -> '.join(segment.threads), through, str(period) if segment.datum else '', str(response), str(self.sum(segment)),
-                str(period + response))
+        wait, response = self.wait(segment), self.response(segment)
+        return (' -> '.join(segment.threads), through, str(wait) if segment.datum else '', str(response), str(self.sum(segment)),
+                str(wait + response))
 
     def time(self, ticks: int) -> str:
         """A time in words."""
@@ -229,16 +230,17 @@ class Chains:
     def below(self, segments: List[Segment]) -> Iterator[str]:
         """The lines below the table."""
         first, last = segments[0].threads[0], segments[-1].threads[-1]
-        whole = sum(self.period(one) + self.response(one) for one in segments)
-        by_sums = sum(self.period(one) + self.sum(one) for one in segments)
+        whole = sum(self.wait(one) + self.response(one) for one in segments)
+        by_sums = sum(self.wait(one) + self.sum(one) for one in segments)
         yield f'From a release of {first} to the end of {last}: at most {self.time(whole)}; with the sums of the responses {by_sums}.'
         if self.design.by_name[first].kind == 'CYCLIC':
-            yield f'From a change outside that {first} reads: its period of {self.bounds[first].period} more, {self.time(whole + self.bounds[first].period)}.'
+            period = self.bounds[first].period
+            yield f'From a change outside that {first} reads: its period of {period} more, {self.time(whole + period)}.'
         yield ('The program proves this bound, since all links are requests.' if len(segments) == 1 else
-               'The program proves the column `response`; the periods, the last column and its sum are arithmetic of this script.')
+               'The program proves the column `response`; `wait`, `adds` and the bound are arithmetic of this script.')
 
 
-HEADS = ('segment', 'through', 'period', 'response', 'sum of responses', 'adds')
+HEADS = ('segment', 'through', 'wait', 'response', 'sum of responses', 'adds')
 
 
 def written(chains: Chains, segments: List[Segment], is_csv: bool) -> Iterator[str]:

@@ -3,9 +3,9 @@
 
     budgets.py [--csv] DESIGN LOG ..
 
-A log is a trace, as `replay` and `verify` write them or a target logs them (docs/USING.md, "Traces from a target"). Each line `TICK end THREAD used N`
-counts; all other lines are passed over, among them anything before `-- trace`. Of each thread the table has the number of ends, the greatest and the
-mean `used`, the cost that the program computes, its THREAD_BUDGET, and what is exceeded: `cost`, or `budget` and so the cost too. A thread that never
+A log is a trace, as `replay` and `verify` write them or a target logs them (docs/USING.md, "Traces from a target"). Each line
+`TICK end THREAD used N` counts, and all other lines are passed over. Of each thread the table has the number of ends, the greatest and the mean
+`used`, the cost that the program computes, its THREAD_BUDGET, and what is exceeded: `cost`, or `budget` and so the cost too. A thread that never
 ended has empty cells. The table is in Markdown, with --csv in comma-separated values; the mean is rounded up to hundredths.
 
 Bounds are computed from costs: if an activation used more than the cost, they say nothing about that run. Logs that stay within say nothing about
@@ -69,7 +69,8 @@ def used_in(file: str, limits: Limits) -> Iterator[tuple[str, int]]:
     try:
         with open(file, encoding='utf-8') as log:
             for number, line in enumerate(log, 1):
-                if line.split()[1:2] != ['end']:
+                words = line.split()
+                if words[1:2] != ['end'] or not words[0].isdigit():
                     continue
                 found = END.fullmatch(line.strip())
                 if not found:

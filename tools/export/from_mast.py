@@ -59,6 +59,7 @@ class Skeleton:
         self.whole, self.title = self.names.of('whole'), self.names.of(name_of(title) if title else 'design')
         self.by_priority = sorted(system.tasks.values(), key=lambda task: -task.priority)
         self.assign = self.assign_cost()
+        self.operations: dict[str, dict[tuple[str, Fraction], str]] = {}
 
     def ticks(self, time: Fraction, line: int) -> int:
         """A time in ticks."""
@@ -99,7 +100,6 @@ class Skeleton:
 
     def lines(self) -> Iterator[str]:
         """The lines of the design."""
-        self.operations: dict[str, dict[tuple[str, Fraction], str]] = {}
         threads = [line for task in self.by_priority for line in self.thread(task)]
         yield f'-- A skeleton from a file of MAST: one unit of time is {self.per_unit} ticks, and each `work` is what remains of a cost.'
         yield from (f'-- {note}' for note in self.notes())

@@ -100,14 +100,16 @@ class Used(InFolder):
     def test_own_traces(self) -> None:
         """A trace of the program is within the costs, and reaches them; two logs count together; a design that is late has costs too."""
         mine = os.path.join(TOP, 'examples', 'mine_pump.design')
-        trace = subprocess.run([PROGRAM, 'verify', mine, os.path.join(TOP, 'examples', 'one_water_alarm.arrivals')], capture_output=True, text=True,
-                               check=True, timeout=300).stdout
+        arrivals = os.path.join(TOP, 'examples', 'one_water_alarm.arrivals')
+        trace = subprocess.run([PROGRAM, 'verify', mine, arrivals], capture_output=True, text=True, check=True, timeout=300).stdout
         path = self.file('trace', trace)
         status, out, err = run('budgets.py', '--csv', mine, path, path)
         self.assertEqual((status, err), (0, ''))
         rows = [line.split(',') for line in out.splitlines()]
         self.assertEqual(rows[0], ['thread', 'ends', 'greatest', 'mean', 'cost', 'budget', 'exceeded'])
-        self.assertEqual(sum(int(row[1]) for row in rows[1:]), 2 * trace.count(' end '.join(['', ''])) - 2 * trace.split('-- trace')[0].count(' end '))
+        ends = trace.split('-- trace', 1)[1].count(' end ')
+        self.assertGreater(ends, 5)
+        self.assertEqual(sum(int(row[1]) for row in rows[1:]), 2 * ends)
         self.assertTrue(any(row[2] == row[4] for row in rows[1:]))
         late = os.path.join(TOP, 'examples', 'late_control.design')
         self.assertEqual(run('budgets.py', late, self.file('log', '1 end gyro used 1\n'))[0], 0)

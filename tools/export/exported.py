@@ -176,14 +176,17 @@ class Names:
     def of(self, *parts: str) -> str:
         """The name of what these parts denote, the same at each call."""
         if parts not in self.given:
-            whole = name = '_'.join(parts)
-            number = 1
-            while name in self.used:
-                number += 1
-                name = f'{whole}_{number}'
-            self.used.add(name)
-            self.given[parts] = name
+            self.given[parts] = self.fresh('_'.join(parts))
         return self.given[parts]
+
+    def fresh(self, wanted: str) -> str:
+        """A name that is not in use, this one if it can be."""
+        name, number = wanted, 1
+        while name in self.used:
+            number += 1
+            name = f'{wanted}_{number}'
+        self.used.add(name)
+        return name
 
 
 __all__ = ['Names', 'Refused', 'Resource', 'Section', 'System', 'Task', 'UNITS', 'main_of', 'output', 'read', 'system_of', 'time_of']

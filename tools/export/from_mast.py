@@ -50,13 +50,13 @@ class Skeleton:
         self.system = system
         self.per_unit = per_unit
         self.names = Names(RESERVED)
-        self.objects = {name: self.names.of(name_of(name)) for name in system.tasks}
+        self.objects = {name: self.names.fresh(name_of(name)) for name in system.tasks}
         self.requested = {task.name for task in system.tasks.values() if task.starter is not None}
         locked = {one.resource for task in system.tasks.values() for one in task.sections}
         self.stores = [name for name in system.resources if name not in self.requested and (name in locked or name not in system.tasks)]
-        self.owners = {name: self.names.of(name_of(name), *(['resource'] if name in system.tasks else [])) for name in self.stores}
+        self.owners = {name: self.names.fresh(name_of(name) + '_resource' * (name in system.tasks)) for name in self.stores}
         self.owners.update((name, self.objects[name]) for name in self.requested)
-        self.whole, self.title = self.names.of('whole'), self.names.of(name_of(title) if title else 'design')
+        self.whole, self.title = self.names.fresh('whole'), self.names.fresh(title)
         self.by_priority = sorted(system.tasks.values(), key=lambda task: -task.priority)
         self.assign = self.assign_cost()
         self.operations: dict[str, dict[tuple[str, Fraction], str]] = {}

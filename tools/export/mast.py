@@ -14,7 +14,9 @@ from fractions import Fraction
 from typing import Dict, List, Union
 
 TOKEN = re.compile(r'\s+|--[^\n]*|(?P<arrow>=>)|(?P<mark>[(),;])|"(?P<text>[^"\n]*)"|(?P<word>[\w.+-]+)')
-NUMBER = re.compile(r'[+]?\d+(\.\d*)?([eE][+-]?\d+)?')
+NUMBER = re.compile(r'[+]?\d{1,18}(\.\d{0,18})?([eE][+-]?\d{1,2})?')
+MOST_NESTED = 50
+MOST_STEPS = 10000
 
 
 class Fault(Exception):
@@ -36,6 +38,12 @@ class Word:
         if not NUMBER.fullmatch(self.text):
             raise Fault(self.line, f'{self.text} is not a number')
         return Fraction(self.text)
+
+    def whole(self) -> int:
+        """The whole number that it is."""
+        if self.number().denominator != 1:
+            raise Fault(self.line, f'{self.text} is not a whole number')
+        return int(self.number())
 
 
 @dataclass
@@ -118,17 +126,19 @@ class Parser:
             found.append((kind.text, value))
         return found
 
-    def group(self) -> Value:
+    def group(self, depth: int = 0) -> Value:
         """An element, or a list of values, in parentheses."""
         element, values = Element(self.next('(').line), []
+        if depth > MOST_NESTED:
+            raise Fault(element.line, f'more than {MOST_NESTED} parentheses are open')
         while True:
             if self.tokens[self.at].text == '(':
-                values.append(self.group())
+                values.append(self.group(depth + 1))
             else:
                 word = self.next()
                 if self.tokens[self.at].text == '=>':
                     self.at += 1
-                    element.values[word.text] = self.group() if self.tokens[self.at].text == '(' else self.next()
+                    element.values[word.text] = self.group(depth + 1) if self.tokens[self.at].text == '(' else self.next()
                 else:
                     values.append(word)
             if self.tokens[self.at].text != ',':
@@ -182,6 +192,8 @@ class System:
         if len(processors) != 1:
             raise Fault(processors[1].line if processors else 1, 'one processing resource is wanted')
         self.speed = processors[0].number('speed_factor', 1)
+        if not self.speed:
+            raise Fault(processors[0].line, 'the speed factor is 0')
         self.resources = {name: self.ceiling(one) for name, one in self.kinds.get('shared_resource', {}).items()}
         self.tasks: dict[str, Task] = {}
         for transaction in self.kinds.get('transaction', {}).values():
@@ -193,7 +205,7 @@ class System:
         """The ceiling of a resource."""
         if resource.text('type') != 'immediate_ceiling_resource':
             raise Fault(resource.line, f'{resource.text("type")} is not an immediate ceiling resource')
-        return int(resource.number('ceiling', 0))
+        return resource.word('ceiling').whole() if 'ceiling' in resource.values else 0
 
     def find(self, kind: str, name: Word) -> Element:
         """The element of a kind with a name."""
@@ -212,6 +224,8 @@ class System:
         taken = 0
         while worklist:
             event, starter = worklist.pop(0)
+            if taken > len(handlers):
+                break
             for handler in [one for one in handlers if one.text('input_event') == event]:
                 taken += 1
                 if handler.text('type') == 'activity':
@@ -240,7 +254,7 @@ class System:
         if server_name.text in self.tasks:
             raise Fault(server_name.line, f'the server {server_name.text} has a second activity')
         cost, sections = self.cost(handler.word('activity_operation'))
-        task = Task(server_name.text, handler.line, int(policies[0].number('the_priority')), kind == 'periodic', period.number(),
+        task = Task(server_name.text, handler.line, policies[0].word('the_priority').whole(), kind == 'periodic', period.number(),
                     event.number('max_jitter', 0) if starter is None else Fraction(0), event.number('phase', 0),
                     self.deadline(transaction, event, handler, period.number()), cost, sections, starter)
         self.tasks[task.name] = task
@@ -261,7 +275,8 @@ class System:
     def cost(self, name: Word) -> tuple[Fraction, list[Section]]:
         """The cost of an operation and its sections."""
         operation = self.find('operation', name)
-        steps = self.steps(name, 0)
+        steps: list[Word] = []
+        self.steps(name, 0, steps)
         sections, now = [], Fraction(0)
         held: dict[str, tuple[Fraction, Word]] = {}
         for step in steps:
@@ -284,17 +299,21 @@ class System:
             return operation.number('worst_case_execution_time') / self.speed, sections
         return now, sections
 
-    def steps(self, name: Word, depth: int) -> list[Word]:
-        """The simple operations of an operation, in order."""
+    def steps(self, name: Word, depth: int, found: list[Word]) -> None:
+        """Adds the simple operations of an operation, in order."""
         operation = self.find('operation', name)
         kind = operation.text('type')
+        if len(found) > MOST_STEPS or depth > MOST_NESTED:
+            raise Fault(name.line, f'{name.text} has more than {MOST_STEPS} operations, or {MOST_NESTED} inside one another')
         if kind == 'simple':
-            return [name]
-        if kind not in ('composite', 'enclosing') or depth > 50:
-            raise Fault(name.line, f'an operation of type {kind} is not read here')
+            found.append(name)
+            return
+        if kind not in ('composite', 'enclosing'):
+            raise Fault(name.line, f'an operation of type {kind} is not read')
         if kind == 'enclosing' and depth:
             raise Fault(name.line, 'an enclosing operation inside another one is not read')
-        return [step for one in operation.words('composite_operation_list') for step in self.steps(one, depth + 1)]
+        for one in operation.words('composite_operation_list'):
+            self.steps(one, depth + 1, found)
 
     def blocking(self, task: Task) -> Fraction:
         """The longest section by which a task of lower priority delays a task."""

@@ -317,6 +317,15 @@ class ByHand(unittest.TestCase):
                 ('Referenced_Event => e2', 'Referenced_Event => e9',
                  '21: a hard_global_deadline that does not count from the release of its activity is not read'),
                 ('Name => quick, Worst', 'Name => quick, Worse', '8: worst_case_execution_time is missing'),
+                ('Name => slow, Composite_Operation_List => (enter, leave, rest)', 'Name => slow, Composite_Operation_List => (slow, slow)',
+                 '12: slow has more than 10000 operations, or 50 inside one another'),
+                ('Speed_Factor => 1.0', 'Speed_Factor => 0.0', '2: the speed factor is 0'),
+                ('The_Priority => 2', 'The_Priority => 2.5', '5: 2.5 is not a whole number'),
+                ('Ceiling => 2', 'Ceiling => 1e999', '7: 1e999 is not a number'),
+                ('Type => Activity, Input_Event => e3', 'Type => Multicast, Output_Events_List => (e3), Input_Event => e3',
+                 '23: transaction t3 has a handler that its external event does not reach once'),
+                ('-- A comment', '(' * 60 + '\n', '1: a name or a number is missing before ('),
+                ('-- A comment', 'Model ' + '(' * 60 + '\n', '1: more than 50 parentheses are open'),
                 ('-- A comment', '# A comment', '1: no token begins with #')):
             self.assertEqual(BY_HAND.count(before) > 0, True, before)
             self.assertEqual(self.refusal(BY_HAND.replace(before, after)), line)
@@ -338,6 +347,17 @@ class ByHand(unittest.TestCase):
         for script in ('to_mast.py', 'to_cheddar.py', 'to_aadl.py', 'to_json.py'):
             self.assertEqual(run(script)[0], 2)
             self.assertEqual(run(script, '--help')[::2], (0, ''))
+
+    def test_names(self) -> None:
+        """Names that differ in signs alone, or are words of designs, get names of their own."""
+        with tempfile.TemporaryDirectory() as room:
+            file = os.path.join(room, 'high.mast')
+            with open(file, 'w', encoding='utf-8') as stream:
+                text = BY_HAND.replace('middle', 'hi.gh').replace('low', 'hi_gh')
+                stream.write(text.replace('Name => r,', 'Name => loop,').replace('(r)', '(loop)'))
+            status, out, _ = run('from_mast.py', file)
+            self.assertEqual(status, 0)
+            self.assertEqual(re.findall(r'(?:OBJECT|DESIGN) (\w+) IS', out), ['high_2', 'whole', 'loop_2', 'high', 'hi_gh', 'hi_gh_2'])
 
     def test_notes(self) -> None:
         """A skeleton says where the file has other priorities or ceilings than the program will compute."""

@@ -91,7 +91,7 @@ def read_text(text: str) -> traces.Program:
 def read_trace(text: str) -> tuple[list[Line], list[traces.Event]]:
     """The lines of the trace of a replay that a run has too, and all its events."""
     events = [traces.read_event(line, place) for place, line in enumerate(text.splitlines(), 1)]
-    lines = [Line(e.time, e.kind, e.task, '' if e.kind == 'end' else more_of(e)) for e in events if e.kind in TOLD]
+    lines = [Line(event.time, event.kind, event.task, more_of(event)) for event in events if event.kind in TOLD]
     return lines, events
 
 

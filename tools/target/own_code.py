@@ -102,14 +102,17 @@ def edited(design: str, text: str) -> str:
 def lines_of(text: str, left: dict[tuple[str, str], list[Statement]], units: list[str]) -> Iterator[str]:
     """Returns the lines of a text, and takes each statement from those that are left."""
     packages: list[str] = []
+    ends: list[str] = []        # how each of them ends: an operation may have the name of its object
     operation = ''
     for number, line in enumerate(text.splitlines(), 1):
         words = line.strip().rstrip(';').split()
         if words[:2] == ['package', 'body']:
             yield from ['with %s;' % unit for unit in units] if not packages else []
             packages.append(words[2])
-        elif packages and words == ['end', packages[-1]]:
+            ends.append('%send %s;' % (line[:line.index('package')], words[2]))
+        elif ends and line == ends[-1]:
             packages.pop()
+            ends.pop()
         elif packages and (words[:1] == ['procedure'] or words[:2] == ['task', 'body']):
             operation = words[2] if words[0] == 'task' else words[1]
         found = WORK.fullmatch(line.strip()) if packages else None

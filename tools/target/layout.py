@@ -160,6 +160,12 @@ def named(lines: list[str], units: Iterable[str], own: str) -> list[str]:
     return [unit for unit in units if unit in words and unit != own]
 
 
+def needed(context: list[str], lines: list[str]) -> list[str]:
+    """Returns the lines of a context whose units these lines name."""
+    body = '\n'.join(lines)
+    return [line for line in context if not line.startswith('with ') or re.search(r'\b%s\.' % re.escape(line[len('with '):-1]), body)]
+
+
 def spec_of(unit: list[str], name: str, parent: str) -> list[str]:
     """Returns the specification of a child. If it needs no body, only this pragma lets it have one."""
     lines = as_child(unit, name, parent)
@@ -184,9 +190,9 @@ def laid_out(source: str, own: Iterable[str] = ()) -> str:
         lines = as_child(lines, unit, text.name)
         for operation in [word for word in left if word.startswith(unit + '.')]:
             lines, subunit = without_body(lines, text.name, *operation.split('.'))
-            subunits.append([('with %s.%s;' % (text.name, other)) for other in named(subunit, text.specs, unit)] + subunit)
+            subunits.append(needed(text.more, subunit) + [('with %s.%s;' % (text.name, other)) for other in named(subunit, text.specs, unit)] + subunit)
             left.remove(operation)
-        parts.append(text.more + ['with %s.%s;' % (text.name, other) for other in named(lines, text.specs, unit)] + lines)
+        parts.append(needed(text.more, lines) + ['with %s.%s;' % (text.name, other) for other in named(lines, text.specs, unit)] + lines)
     if left:
         raise Fault('no operation of a passive object: ' + left[0])
     parts += subunits + [main_of(text.name, list(text.specs))]

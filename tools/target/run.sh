@@ -115,8 +115,8 @@ case $cpu in
     *[,-]*) sed -i '/ away /d' run ;;
 esac
 if [ $mode = steps ]; then
-    # shellcheck disable=SC2094  # `log` is the name of a command and of a file
-    python3 "$here/target.py" log text trace run >log || exit 2
+    # A replay that stops at a violated ceiling has no horizon, and the run no log.
+    ! grep -q ' horizon$' trace || python3 "$here/to_trace.py" text arrivals run >log || exit 2
     python3 "$here/target.py" steps text trace run
 else
     python3 "$here/target.py" responses text trace arrivals "$tick" run

@@ -7,7 +7,6 @@
                                                     writes the package hrt_arrivals, whose tasks make the requests, and the program hrt_run,
                                                     which ends 100 ms after UNTIL; with `children`, objects are child packages
     target.py steps TEXT TRACE RUN                  compares each line of a stepped run with the replay
-    target.py log TEXT TRACE RUN                    writes a stepped run as a trace for `hrthood accepts`
     target.py responses TEXT TRACE ARRIVALS TICK_US RUN     compares what is put, and responses with their bounds
 
 A line of a run is `TIME KIND PRIORITY MORE`. TIME is seconds, or ticks of a stepped run, and the priority is that of the task. Status 0: the run
@@ -91,7 +90,7 @@ def read_text(text: str) -> traces.Program:
 def read_trace(text: str) -> tuple[list[Line], list[traces.Event]]:
     """The lines of the trace of a replay that a run has too, and all its events."""
     events = [traces.read_event(line, place) for place, line in enumerate(text.splitlines(), 1)]
-    lines = [Line(e.time, e.kind, e.task, '' if e.kind == 'end' else more_of(e)) for e in events if e.kind in TOLD]
+    lines = [Line(event.time, event.kind, event.task, more_of(event)) for event in events if event.kind in TOLD]
     return lines, events
 
 
@@ -233,43 +232,25 @@ def compare_steps(program: traces.Program, trace: str, run_text: str) -> Answer:
         compare_stop(events[-1], run, answer)
     else:
         answer.refuse_ends_of_tasks(run)
+    compare_lines(wanted, [line for line in run if line.kind in TOLD and line.time <= until], answer, 'run')
+    return answer
+
+
+def compare_lines(wanted: list[Line], found: list[Line], answer: Answer, name: str) -> None:
+    """The lines of a replay, and those that were found, in the order of both."""
     late = late_leaves(wanted)
-    wanted = list(without(wanted, late))
-    found = list(without([line for line in run if line.kind in TOLD and line.time <= until], late))
+    wanted, found = list(without(wanted, late)), list(without(found, late))
     if wanted == found:
         passed = '; %d leaves behind requests are passed over' % len(late) if late else ''
         answer.say('same: all %d lines of the replay, in order, at the same ticks%s' % (len(wanted), passed))
-        return answer
+        return
     place = next((i for i, (one, other) in enumerate(zip(wanted, found)) if one != other), min(len(wanted), len(found)))
     answer.refuse('different from line %d on (of %d and %d):' % (place + 1, len(wanted), len(found)))
     for i in range(max(0, place - 2), place + 3):
         one, other = (' '.join(str(part) for part in lines[i]).strip() if i < len(lines) else '-' for lines in (wanted, found))
-        answer.say('   replay %-44s run %s' % (one, other))
+        answer.say('   replay %-44s %s %s' % (one, name, other))
     if [line[1:] for line in wanted] == [line[1:] for line in found]:
         answer.say('the order is the same, and ticks differ by %d at most' % max(abs(a.time - b.time) for a, b in zip(wanted, found)))
-    return answer
-
-
-def log(program: traces.Program, trace: str, run_text: str) -> str:
-    """The trace of a stepped run. What a target doesn't tell is taken from the replay: when tasks are released and requests come from outside, the
-    ticks that an activation took itself, and the horizon. Of one instant the lines of the run come first, as effects do on the modelled processor.
-    """
-    _, events = read_trace(trace)
-    until = events[-1].time
-    used: dict[str, list[str]] = {}
-    for event in events:
-        if event.kind == 'end':
-            used.setdefault(event.task, []).append(more_of(event))
-    lines: list[tuple[float, str]] = []
-    for line in read_run(run_text, program):
-        if line.kind in TOLD and line.time <= until:
-            more = line.more
-            if line.kind == 'end':
-                left = used.get(line.task, [])
-                more = left.pop(0) if left else 'used 0'
-            lines.append((line.time, ' '.join(part for part in (str(line.time), line.kind, line.task, more) if part)))
-    lines += [(event.time, event.line()) for event in events if event.kind in ('release', 'arrive', 'horizon')]
-    return ''.join(text + '\n' for _, text in sorted(lines, key=lambda line: line[0]))
 
 
 def compare_puts(program: traces.Program, replayed: list[Line], run: list[Line], answer: Answer) -> None:
@@ -347,8 +328,6 @@ def do(words: list[str]) -> int:
                 stream.write(unit)
     elif words[:1] == ['steps'] and len(words) == 4:
         return told(compare_steps(read_text(load(words[1])), load(words[2]), load(words[3])))
-    elif words[:1] == ['log'] and len(words) == 4:
-        sys.stdout.write(log(read_text(load(words[1])), load(words[2]), load(words[3])))
     elif words[:1] == ['responses'] and len(words) == 6:
         return told(compare_responses(read_text(load(words[1])), load(words[2]), load(words[3]), int(words[4]), load(words[5])))
     else:

@@ -47,11 +47,11 @@ STEPS = """ 20 enter 1 board.note 2
  23 leave 1 board.note
  25 enter 3 board.note 7
  27 leave 3 board.note
- 28 end 3
+ 28 end 3 used 5
  32 request 1 printer 2
  33 put 2 2
- 34 end 2
- 35 end 1
+ 34 end 2 used 2
+ 35 end 1 used 18
  121 enter 1 board.note 4
 """
 # Seconds, where a tick is a millisecond: the button responds in 5.5 ticks, and the sampler in 21.25.
@@ -139,7 +139,7 @@ class Steps(unittest.TestCase):
         trace = TRACE.replace('32 request sampler printer 2\n32 release printer 2\n',
                               '30 enter sampler board.note 2\n32 request sampler printer 2\n32 release printer 2\n32 leave sampler board.note\n')
         run = STEPS.replace(' 32 request 1 printer 2\n', ' 30 enter 1 board.note 2\n 32 request 1 printer 2\n')
-        run = run.replace(' 34 end 2\n', ' 34 end 2\n 34 leave 1 board.note\n')
+        run = run.replace(' 34 end 2 used 2\n', ' 34 end 2 used 2\n 34 leave 1 board.note\n')
         self.assertEqual(self.answer(run, trace)[1],
                          ['same: all 10 lines of the replay, in order, at the same ticks; 1 leaves behind requests are passed over'])
         self.assertEqual(self.answer(run.replace(' 23 leave 1 board.note\n', ''), trace)[0], target.DIFFERS)
@@ -151,18 +151,6 @@ class Steps(unittest.TestCase):
 
     def test_the_last_line_may_be_cut_off(self) -> None:
         self.assertEqual(self.answer(STEPS + ' 130 le')[0], target.AGREES)
-
-
-class Logs(unittest.TestCase):
-    def test_the_log_of_a_run_that_agrees_is_its_trace(self) -> None:
-        self.assertEqual(target.log(program(), TRACE, STEPS), TRACE)
-
-    def test_what_a_run_does_otherwise_stands_in_its_log(self) -> None:
-        later = STEPS.replace(' 33 put 2 2', ' 34 put 2 3')
-        self.assertEqual(target.log(program(), TRACE, later), TRACE.replace('33 put printer 2', '34 put printer 3'))
-
-    def test_an_end_too_many_has_no_ticks(self) -> None:
-        self.assertIn('50 end button used 0\n', target.log(program(), TRACE, STEPS.replace('121 enter', '50 end 3\n 121 enter')))
 
 
 class Responses(unittest.TestCase):

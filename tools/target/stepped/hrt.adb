@@ -15,6 +15,7 @@ with ada.exceptions;
 with ada.task_identification;
 with ada.task_termination;
 with hrt_host;
+with system;
 
 package body hrt is
 
@@ -42,6 +43,11 @@ package body hrt is
    type number is mod 2 ** 32;
    calls : number := 0;
    pragma volatile (calls);
+
+   --  The ticks that each task has used itself in its activation, by its base
+   --  priority. Only the task changes its own number.
+   used : array (system.any_priority) of integer := (others => 0);
+   pragma volatile_components (used);
 
    --  The release of a task that woke up late, up to its next call of work.
    owed : moment := zero;
@@ -114,6 +120,7 @@ package body hrt is
          known := current;
          seen := now;
       end loop;
+      used (hrt_host.priority) := used (hrt_host.priority) + ticks - left;
    end work;
 
    procedure put (value : word) is
@@ -125,7 +132,8 @@ package body hrt is
    procedure activation_end is
    begin
       work (finish_cost);
-      tell ("end", "");
+      tell ("end", " used" & integer'image (used (hrt_host.priority)));
+      used (hrt_host.priority) := 0;
    end activation_end;
 
    --  A task that ends, as by a violated ceiling, would do so without a word.

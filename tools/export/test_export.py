@@ -4,7 +4,7 @@
     test_export.py [-v]
 
 PROGRAM is the path of the program, and the proved program of this repository where it isn't set. Without one, the tests that need it are skipped,
-which is told. Neither MAST, Cheddar nor a tool of AADL is run. Not part of the gate.
+which is told. Neither MAST, Cheddar nor a tool of AADL is run.
 """
 
 from __future__ import annotations

@@ -155,8 +155,9 @@ class Chains:
 
     def __init__(self, explained: str, formatted: str) -> None:
         lines = explained.splitlines()
-        if lines and lines[0].startswith('miss '):
-            raise Refused('refused ' + lines[0][len('miss '):])
+        missed = next((line for line in lines if line.startswith('miss ')), None)
+        if missed:
+            raise Refused('refused ' + missed[len('miss '):])
         self.bounds = {found[1]: Bound(*map(int, found.groups()[1:])) for found in map(THREAD.fullmatch, lines) if found}
         self.starters = {found[1]: found[2] for found in map(STARTED.match, lines) if found}
         self.printed = {(found[1], *found[3].split()): int(found[2]) for found in map(CHAIN.fullmatch, lines) if found}
@@ -199,15 +200,15 @@ class Chains:
         return ', '.join(name for name, starter in self.starters.items() if starter == sender) or 'nothing'
 
     def response(self, segment: Segment) -> int:
-        """The proved bound of a segment: the response of its thread of lowest priority."""
-        return min((self.bounds[name] for name in segment.threads), key=lambda bound: bound.priority).response
+        """The proved bound of a segment: the response of its thread of lowest priority, which is the number of its `chain` line, if there is one."""
+        least = min((self.bounds[name] for name in segment.threads), key=lambda bound: bound.priority).response
+        if self.printed.get(tuple(reversed(segment.threads)), least) != least:
+            raise Refused(f'the chain line of {segment.threads[-1]} has another response than its thread of lowest priority')
+        return least
 
     def sum(self, segment: Segment) -> int:
-        """The sum of the responses of a segment, which is the number of its `chain` line, if there is one."""
-        whole = sum(self.bounds[name].response for name in segment.threads)
-        if self.printed.get(tuple(reversed(segment.threads)), whole) != whole:
-            raise Refused(f'the chain line of {segment.threads[-1]} has another sum than this script')
-        return whole
+        """The sum of the responses of a segment, which is a bound too (`law_runs::design_chains_respond`)."""
+        return sum(self.bounds[name].response for name in segment.threads)
 
     def wait(self, segment: Segment) -> int:
         """How much later than the data is written the reader of a segment may be released; 0 for the first segment."""

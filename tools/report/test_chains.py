@@ -4,7 +4,7 @@
     test_chains.py [-v]
 
 PROGRAM is the path of the program, and the proved program of this repository where it isn't set. Without one, the tests that need it are skipped,
-which is told. Not part of the gate.
+which is told.
 """
 
 from __future__ import annotations
@@ -126,8 +126,9 @@ EXPLAINED = '''thread a priority 3 period 10 deadline 10 jitter 0 cost 4 blockin
 thread b priority 2 period 40 deadline 40 jitter 0 cost 6 blocking 1 response 12
 thread c priority 1 period 40 deadline 40 jitter 12 cost 8 blocking 0 response 22
 started c by b jitter 0 response 12
-chain c jitter 0 response 34 by b
+chain c jitter 0 response 22 by b
 ceiling p 3
+utilisation 750
 '''
 
 
@@ -182,15 +183,15 @@ class ByHand(unittest.TestCase):
                                                  'the chain must pass through b, which requests it')
         self.assertEqual(self.refusal('c', 'b'), 'no link from c to b: c writes p.z and requests nothing; b reads p.x')
 
-    def test_other_sum(self) -> None:
-        """A chain line whose sum is another one is not taken."""
-        found = chains.Chains(EXPLAINED.replace('response 34', 'response 35'), FORMATTED)
+    def test_other_response(self) -> None:
+        """A chain line with another response is not taken."""
+        found = chains.Chains(EXPLAINED.replace('chain c jitter 0 response 22', 'chain c jitter 0 response 23'), FORMATTED)
         with self.assertRaises(chains.Refused):
-            found.sum(found.segments(['b', 'c'])[0])
+            found.response(found.segments(['b', 'c'])[0])
 
     def test_late(self) -> None:
         with self.assertRaises(chains.Refused) as caught:
-            chains.Chains('miss U1 a value 12 limit 10 round 2\n' + EXPLAINED, FORMATTED)
+            chains.Chains('utilisation 1020\nmiss U1 a value 12 limit 10 round 2\n' + EXPLAINED, FORMATTED)
         self.assertEqual(str(caught.exception), 'refused U1 a value 12 limit 10 round 2')
 
     def test_words(self) -> None:

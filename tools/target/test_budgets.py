@@ -4,7 +4,7 @@
     test_budgets.py [-v]
 
 PROGRAM is the path of the program, and the proved program of this repository where it isn't set. Without one, the tests that need it are skipped,
-which is told. Not part of the gate.
+which is told.
 """
 
 from __future__ import annotations

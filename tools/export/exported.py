@@ -101,8 +101,9 @@ def output(verb: str, file: str) -> str:
 def system_of(explained: str, formatted: str) -> System:
     """The system that these outputs of `explain` and `format` describe."""
     lines = explained.splitlines()
-    if lines and lines[0].startswith('miss '):
-        raise Refused('refused ' + lines[0][len('miss '):])
+    missed = next((line for line in lines if line.startswith('miss ')), None)
+    if missed:
+        raise Refused('refused ' + missed[len('miss '):])
     design = Design(formatted)
     numbers = {found[1]: dict(zip(NUMBERS, map(int, found.groups()[1:]))) for found in map(THREAD.fullmatch, lines) if found}
     starters = {found[1]: found[2] for found in map(STARTED.fullmatch, lines) if found}

@@ -172,7 +172,8 @@ class ByHand(unittest.TestCase):
 
     def test_order_of_priorities(self) -> None:
         """The response of a segment is that of its lowest priority, wherever that is in the segment."""
-        found = chains.Chains(EXPLAINED.replace('c priority 1', 'c priority 9').replace('chain c jitter 0 response 22', 'chain c jitter 0 response 12'), FORMATTED)
+        changed = EXPLAINED.replace('c priority 1', 'c priority 9').replace('chain c jitter 0 response 22', 'chain c jitter 0 response 12')
+        found = chains.Chains(changed, FORMATTED)
         self.assertEqual(found.response(found.segments(['b', 'c'])[0]), 12)
 
     def test_refusals(self) -> None:

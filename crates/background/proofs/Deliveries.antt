@@ -10,7 +10,6 @@ use Rattle.seq_tree.specs.Proper.{within_limits}
 use Rattle.ods_tree.specs.Designs.{Object, Tree, Trees, Node, Empty, With, Design}
 use Rattle.ods_tree.specs.Flattening.{flat}
 use Rattle.ods_tree.specs.Proper.{IsProperDesign}
-use Rattle.ods_tree.specs.Reading.{Reads}
 use Rattle.ods_tree.specs.Ticks.{in_ticks, first_priority, ticked, tick_time, attribute_in_ticks, object_in_ticks, tree_in_ticks, trees_in_ticks}
 use Rattle.ods_tree.specs.Walk.{Standing, objects, standings, inner_standings, own_of, roots, only_if}
 use Rattle.ods_tree.specs.Words.{is_design_name}
@@ -45,6 +44,7 @@ use Rattle.background_designs.specs.Runs.{IsGuaranteedInBackground}
 use Rattle.law_backgrounds.proofs.Shared.BackgroundRuns.{right-run, hard-table}
 use Rattle.law_backgrounds.proofs.Shared.HardTicks.{ticks-hard}
 use Rattle.ods_tree.proofs.Shared.TickLaws.{ticks-version}
+use Rattle.ods_print.specs.Writable.{is_writable}
 use Rattle.rt_response.specs.Rounds.{IsMiss}
 use Rattle.law_background_texts.proofs.Shared.BackgroundTexts.{text-guaranteed}
 use Rattle.background.specs.Delivers.{DeliversBackground, IsRefusedInBackground, IsBackgroundOf, IsToldFirst}
@@ -270,11 +270,11 @@ module _ (w : Design) where
             least : IsLeastVector (hard_rows x) v
             least = (let L : List ThreadRow → Type 0 = λ rows. IsLeastVector rows v in subst L (same-rows x quick sound) m.least)
 
-            right-text : (bytes : List ℕ) → Reads bytes w → IsGuaranteedInBackground horizon_limit x d.text.items v
-            right-text bytes reads =
+            right-text : is_writable w ≡ true → IsGuaranteedInBackground horizon_limit x d.text.items v
+            right-text writable =
                 let G : List ℕ → Type 0 = λ t. IsGuaranteedInBackground horizon_limit x t v in
                 let S : List ℕ → Type 0 = λ t. length t ≤ ada_limit in
-                subst G (sym text-made) (text-guaranteed w bytes reads (all-passed calm) v least.fits horizon_limit (subst S text-made m.short))
+                subst G (sym text-made) (text-guaranteed w proper writable (all-passed calm) v least.fits horizon_limit (subst S text-made m.short))
 
             made : IsBackgroundOf w d
             made = record {

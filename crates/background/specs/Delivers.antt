@@ -1,10 +1,10 @@
 -- What is made of a design with background objects, by cases: a text with its guarantee, or the first cause for which there is none.
 -- The order of the causes is: the version, the background objects, the rules of the hard part, requests by clients, the bounds, the length.
-use Rattle.std.specs.Prelude.{◌≡◌, ℕ, ◌≤◌, ◌<◌, List, length, Option, Some, None, Result, Ok, Err, ⊤}
+use Rattle.std.specs.Prelude.{◌≡◌, ℕ, ◌≤◌, ◌<◌, true, List, length, Option, Some, None, Result, Ok, Err, ⊤}
 use Rattle.seq_tree.specs.Limits.{ada_limit}
 use Rattle.seq_tree.specs.Names.{Name}
 use Rattle.ods_tree.specs.Designs.{Design}
-use Rattle.ods_tree.specs.Reading.{Reads}
+use Rattle.ods_print.specs.Writable.{is_writable}
 use Rattle.ods_tree.specs.Ticks.{in_ticks}
 use Rattle.design_rules.specs.Broken as rules
 use Rattle.ods_index.specs.Told.{told_of}
@@ -37,8 +37,8 @@ pub record IsBackgroundOf (x : Design) (d : Background) : Type 0 where
   -- every run of the program is right, for all arrivals that keep the separations of the hard part
   pub runs : (r : Arrivals) → KeepsSeparations horizon_limit (hard_part (in_ticks x)) (named_arrivals (background_program (in_ticks x)) r)
       → IsRightInBackground (in_ticks x) bounds r
-  -- of a design that was read, the text reads as the program, so that this is promised of the text
-  pub guaranteed : (bytes : List ℕ) → Reads bytes x → IsGuaranteedInBackground horizon_limit (in_ticks x) d.text.items bounds
+  -- of a design whose names and numbers a text can hold, the text reads as the program, so that this is promised of the text
+  pub guaranteed : is_writable x ≡ true → IsGuaranteedInBackground horizon_limit (in_ticks x) d.text.items bounds
 
 -- a rule of designs is broken first; want of memory is no such rule
 abbrev pub IsToldFirst : Design → Option rules.Broken → Type 0

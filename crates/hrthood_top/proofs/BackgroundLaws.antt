@@ -2,6 +2,8 @@
 use Rattle.std.proofs.Common.{◌≡◌, ℕ, ◌≤◌, List, length, Option, Some, None, refl, ap, subst, sym, ◌∙◌, arith}
 use Rattle.ods_tree.specs.Designs as designs
 use Rattle.ods_tree.specs.Reading.{Reads}
+use Rattle.ods_tree.specs.Spelling.{design_tokens}
+use Rattle.seq_print.proofs.Shared.TokenForms.{tokens-readable}
 use Rattle.ods_tree.specs.Ticks.{in_ticks}
 use Rattle.ods_index.specs.Told.{told_of}
 use Rattle.ods_index.specs.declared.broken.Broken as code
@@ -44,7 +46,7 @@ text-read bytes x d reads w = record {
   least = w.least;
   made = w.made;
   short = w.short;
-  guaranteed = w.guaranteed bytes reads;
+  guaranteed = w.guaranteed (tokens-readable bytes (design_tokens x) reads.spelled);
 }
 
 -- the refusal of a design that was read

@@ -6,6 +6,8 @@ use Rattle.ods_tree.specs.Designs.{Design}
 use Rattle.ods_tree.specs.Words.{is_design_name}
 use Rattle.ods_tree.specs.Proper.{IsProperDesign}
 use Rattle.ods_tree.specs.Reading.{Reads}
+use Rattle.ods_tree.specs.Spelling.{design_tokens}
+use Rattle.seq_print.proofs.Shared.TokenForms.{tokens-readable}
 use Rattle.ods_tree.specs.Ticks.{in_ticks}
 use Rattle.ada_tree.specs.Programs.{Program}
 use Rattle.ada_tree.specs.Reading.{Accepts}
@@ -40,4 +42,4 @@ pub right-text : (limit : ℕ) (x : Design) (bytes : List ℕ) (v : List Bound) 
     → PermitsBackground (in_ticks x) v (named_arrivals p r) (named p told)
 right-text limit x bytes v p r told reads passes fits short =
     right-replay limit x (background_text (in_ticks x) v) v p r told reads.proper passes fits
-    (text-guaranteed x bytes reads passes v fits limit short).reads
+    (text-guaranteed x reads.proper (tokens-readable bytes (design_tokens x) reads.spelled) passes v fits limit short).reads

@@ -1,21 +1,23 @@
--- The text of a design with background objects that was read from a text: its tokens are those of the design's program, so it is guaranteed.
+-- The text of a proper design with background objects that a text can hold: its tokens are those of the design's program, so it is guaranteed.
 use Rattle.std.proofs.Common.{◌≡◌, ℕ, ◌+◌, ◌-◌, ◌≤◌, Bool, true, false, List, zip, length, max, Ok}
 use Rattle.std.proofs.Common.{refl, sym, ap, subst, ◌∙◌, arith, le_trans, if◌then◌else◌}
 use Rattle.std.specs.List.{list_all}
 use Rattle.std.proofs.lemmas.Bool.{and_parts, and_from}
 use Rattle.seq_tree.specs.Limits.{ada_limit}
 use Rattle.seq_tree.specs.Lexis.{tokens, plain}
-use Rattle.seq_print.proofs.Shared.TokenForms.{tokens-readable}
+use Rattle.seq_tree.specs.Proper.{within_limits}
 use Rattle.seq_print.specs.Readable.{is_readable}
 use Rattle.ods_tree.specs.Designs.{Design}
 use Rattle.ods_tree.specs.Walk.{Standing, objects}
-use Rattle.ods_tree.specs.Reading.{Reads}
+use Rattle.ods_tree.specs.Proper.{IsProperDesign}
 use Rattle.ods_tree.specs.Spelling.{design_tokens}
 use Rattle.ods_tree.specs.Ticks.{in_ticks, first_priority}
+use Rattle.ods_tree.specs.Words.{is_design_name}
 use Rattle.ods_tree.specs.Flats.{Cyclic, Thread, period_of}
 use Rattle.ods_tree.specs.Flattening.{threads, flat}
 use Rattle.ods_tree.specs.Sound.{is_timed, is_in_range}
 use Rattle.ods_tree.proofs.Shared.TickLaws.{ticks-version}
+use Rattle.ods_print.specs.Writable as design
 use Rattle.ada_tree.specs.Spelling.{program_tokens}
 use Rattle.ada_print.specs.Writable.{is_word, is_number, is_writable}
 use Rattle.rt_response.specs.declared.rows.Bound.{Bound}
@@ -53,7 +55,8 @@ use Rattle.law_backgrounds.proofs.Shared.BackgroundPrograms.{program-raised}
 use Rattle.law_backgrounds.proofs.Shared.BackgroundRuns.{quick, guaranteed, hard-table}
 use Rattle.law_background_texts.proofs.LegibleHard.{hard-are-legible, lift-legible}
 
-module _ (written : Design) (bytes : List ℕ) (reads : Reads bytes written) (passes : IsBackgroundDesign written) where
+module _ (written : Design) (proper : IsProperDesign (within_limits is_design_name) written) (writable : design.is_writable written ≡ true)
+    (passes : IsBackgroundDesign written) where
   abbrev x : Design
   x = in_ticks written
 
@@ -64,7 +67,7 @@ module _ (written : Design) (bytes : List ℕ) (reads : Reads bytes written) (pa
   met = passes Hard
 
   all-tokens : list_all is_readable (design_tokens written) ≡ true
-  all-tokens = tokens-readable bytes (design_tokens written) reads.spelled
+  all-tokens = writable
 
   legible : (s : Standing) → IsIn s (objects y) → IsLegibleObject s.own
   legible = hard-are-legible x (legible-in-ticks written (objects-legible written all-tokens))
@@ -85,14 +88,14 @@ module _ (written : Design) (bytes : List ℕ) (reads : Reads bytes written) (pa
   within = room written y met (sym (ticks-version written))
 
   few : client_count x ≤ length (threads y)
-  few = clients-few x (quick 0 written reads.proper passes) (passes Requests) sound
+  few = clients-few x (quick 0 written proper passes) (passes Requests) sound
 
   low : least ≤ 60
   low = let a = within in let b = few in omega (arith, a, b)
 
   is-raised : background_program x ≡ lifted least (is_client_name x) (program y)
-  is-raised = program-raised written x met (sym (ticks-version written)) (hard-are-proper x (proper-in-ticks written reads.proper))
-      (quick 0 written reads.proper passes) (passes Requests)
+  is-raised = program-raised written x met (sym (ticks-version written)) (hard-are-proper x (proper-in-ticks written proper))
+      (quick 0 written proper passes) (passes Requests)
 
   program-read : is_writable (background_program x) ≡ true
   program-read = subst (λ p. is_writable p ≡ true) (sym is-raised)
@@ -137,10 +140,10 @@ module _ (written : Design) (bytes : List ℕ) (reads : Reads bytes written) (pa
     head-read =
         and_from _ _ named (and_from _ _
         (all-from is_thread_writable (zip (background_flat x).threads (background_ranks x).threads) (λ p h. thread-read p.0 p.1 h))
-        (bounds-read _ (hard_rows x) v (hard-table written reads.proper passes).each fits.1))
+        (bounds-read _ (hard_rows x) v (hard-table written proper passes).each fits.1))
 
     pub text-spelled : plain (tokens (background_text x v)) ≡ Ok (program_tokens (background_program x))
     text-spelled = text-back (background_flat x) (background_ranks x) (hard_places x) v program-read head-read
 
     pub text-guaranteed : (limit : ℕ) → length (background_text x v) ≤ ada_limit → IsGuaranteedInBackground limit x (background_text x v) v
-    text-guaranteed limit short = guaranteed limit written reads.proper passes v fits (background_text x v) short text-spelled
+    text-guaranteed limit short = guaranteed limit written proper passes v fits (background_text x v) short text-spelled

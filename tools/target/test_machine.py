@@ -6,7 +6,7 @@
 Needs GNAT, qemu-system-x86_64 and a Linux kernel: the file HRT_KERNEL, or else the newest in /boot. If one is missing it says so, and exits with
 status 0. The program is PROGRAM, or `hrthood` of this repository; HRT_JOBS machines (4) run at a time. With FIRST and COUNT it takes COUNT random
 designs from seed FIRST on, and writes a row for each one:
-seed, lines, result of run.sh, answer of accepts, result of to_trace --replay, whether the log is the trace of the replay.
+the seed, and what run.sh, accepts and to_trace.py --replay say; last, whether the log is the trace of the replay.
 """
 
 from __future__ import annotations
@@ -31,6 +31,7 @@ PROGRAM = os.environ.get('PROGRAM', os.path.join(HERE, '..', '..', 'hrthood'))
 JOBS = int(os.environ.get('HRT_JOBS', '4'))
 COUNT = 20                      # of random designs
 TICK_US = 1000
+COLUMNS = 'seed,lines,result,accepts,replay,is_trace'
 
 
 def kernel() -> str:
@@ -121,6 +122,7 @@ class RandomDesigns(unittest.TestCase):
 
 def rows(first: int, count: int) -> None:
     """Writes a row of what was found for each design."""
+    print(COLUMNS, flush=True)
     with tempfile.TemporaryDirectory() as room:
         for seed, design, _, answer in run_designs(first, count, room):
             words = answer.said.split()

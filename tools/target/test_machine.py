@@ -67,7 +67,10 @@ def designs(first: int, count: int, room: str) -> Iterator[tuple[int, str, str]]
     seed = first
     while count:
         design, arrivals = random_design.write(seed, room)
-        if subprocess.run([PROGRAM, 'verify', design, arrivals], capture_output=True).returncode == 0:
+        status = subprocess.run([PROGRAM, 'verify', design, arrivals], capture_output=True).returncode
+        if status not in (0, 1):
+            raise SystemExit('test_machine: %s ends with status %d' % (PROGRAM, status))
+        if status == 0:
             yield seed, design, arrivals
             count -= 1
         seed += 1
@@ -126,6 +129,8 @@ def rows(first: int, count: int) -> None:
     with tempfile.TemporaryDirectory() as room:
         for seed, design, _, answer in run_designs(first, count, room):
             words = answer.said.split()
+            lines = words[2] if words[:2] == ['same:', 'all'] else ''
+            result = 'same' if answer.status == 0 else 'status %d' % answer.status
             log = os.path.join(answer.kept, 'log')
             accepted = replayed = is_trace = '-'
             if os.path.exists(log):
@@ -135,8 +140,7 @@ def rows(first: int, count: int) -> None:
                                         capture_output=True, env=dict(os.environ, PROGRAM=PROGRAM)).returncode
                 replayed = {0: 'same', 1: 'different'}.get(status, 'none')
                 is_trace = 'yes' if answer.read('log') == answer.read('trace') else 'no'
-            print(','.join((str(seed), words[2] if words[:2] == ['same:', 'all'] else '', 'same' if answer.status == 0 else 'status %d' % answer.status,
-                            accepted, replayed, is_trace)), flush=True)
+            print(','.join((str(seed), lines, result, accepted, replayed, is_trace)), flush=True)
 
 
 def main() -> None:

@@ -292,6 +292,12 @@ class ByHand(unittest.TestCase):
         above = mast.System(BY_HAND.replace('Ceiling => 2', 'Ceiling => 3'))
         self.assertEqual({name: above.blocking(task) for name, task in above.tasks.items()}, {'high': 3, 'middle': 3, 'low': 0})
 
+    def test_equal_priorities(self) -> None:
+        """Tasks of one priority delay each other and don't block: 6 + 10 + 3 times 4, each."""
+        system = mast.System(BY_HAND.replace('The_Priority => 1', 'The_Priority => 2'))
+        self.assertEqual(system.blocking(system.tasks['middle']), 0)
+        self.assertEqual(system.responses(), {'high': (3, 4), 'middle': (0, 28), 'low': (0, 28)})
+
     def test_over_the_period(self) -> None:
         longer = BY_HAND.replace('Name => rest, Worst_Case_Execution_Time => 7', 'Name => rest, Worst_Case_Execution_Time => 70')
         self.assertIsNone(mast.System(longer).responses())

@@ -282,7 +282,8 @@ class Tables(unittest.TestCase):
         files = {'TARGET.md': 'a\n' + ''.join('<!-- %s -->\n<!-- end of %s -->\n' % (name, name) for name in names) + 'z\n',
                  'assurance/target_runs.csv': 'where,target,tick_us,options,input,arrivals,lines,result,log\n'
                  'qemu-system,x86_64,1000,-s,a.design,a.arrivals,26,same,\nqemu-user,s390x-linux-gnu,9,-s,b.design,b.arrivals,7,same,equal\n',
-                 'assurance/target_logs.csv': 'seed,lines,result,accepts,replay,is_trace\n1,4,same,yes lines 5,same,yes\n2,6,same,refused,different,no\n',
+                 'assurance/target_logs.csv': 'seed,lines,result,accepts,replay,is_trace\n1,4,same,yes lines 5,same,yes\n'
+                 '2,6,same,refused,different,no\n',
                  'assurance/target_changed_logs.csv': 'change,logs,accepted,refused,same_replay,other_replay\nnone,3,2,1,1,2\n'}
         with tempfile.TemporaryDirectory() as top:
             os.makedirs(os.path.join(top, 'docs', 'assurance'))

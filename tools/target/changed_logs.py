@@ -93,6 +93,8 @@ def verified(first: int, count: int, room: str) -> Iterator[tuple[int, str, str,
     while count:
         design, arrivals = random_design.write(seed, room)
         answer = subprocess.run([PROGRAM, 'verify', design, arrivals], capture_output=True, text=True)
+        if answer.returncode not in (0, 1):
+            raise SystemExit('changed_logs: %s ends with status %d' % (PROGRAM, answer.returncode))
         if answer.returncode == 0:
             text, _, trace = answer.stdout.partition('-- trace\n')
             yield seed, design, arrivals, text, trace

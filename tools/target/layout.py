@@ -190,7 +190,8 @@ def laid_out(source: str, own: Iterable[str] = ()) -> str:
         lines = as_child(lines, unit, text.name)
         for operation in [word for word in left if word.startswith(unit + '.')]:
             lines, subunit = without_body(lines, text.name, *operation.split('.'))
-            subunits.append(needed(text.more, subunit) + [('with %s.%s;' % (text.name, other)) for other in named(subunit, text.specs, unit)] + subunit)
+            withs = ['with %s.%s;' % (text.name, other) for other in named(subunit, text.specs, unit)]
+            subunits.append(needed(text.more, subunit) + withs + subunit)
             left.remove(operation)
         parts.append(needed(text.more, lines) + ['with %s.%s;' % (text.name, other) for other in named(lines, text.specs, unit)] + lines)
     if left:

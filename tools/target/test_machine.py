@@ -6,7 +6,7 @@
 Needs GNAT, qemu-system-x86_64 and a Linux kernel: the file HRT_KERNEL, or else the newest in /boot. If one is missing it says so, and exits with
 status 0. The program is PROGRAM, or `hrthood` of this repository; HRT_JOBS machines (4) run at a time. With FIRST and COUNT it takes COUNT random
 designs from seed FIRST on, and writes a row for each one:
-seed, lines, result of run.sh, answer of accepts, result of to_trace --replay, whether the log is the trace of the replay.
+the seed, and what run.sh, accepts and to_trace.py --replay say; last, whether the log is the trace of the replay.
 """
 
 from __future__ import annotations
@@ -31,6 +31,7 @@ PROGRAM = os.environ.get('PROGRAM', os.path.join(HERE, '..', '..', 'hrthood'))
 JOBS = int(os.environ.get('HRT_JOBS', '4'))
 COUNT = 20                      # of random designs
 TICK_US = 1000
+COLUMNS = 'seed,lines,result,accepts,replay,is_trace'
 
 
 def kernel() -> str:
@@ -66,7 +67,10 @@ def designs(first: int, count: int, room: str) -> Iterator[tuple[int, str, str]]
     seed = first
     while count:
         design, arrivals = random_design.write(seed, room)
-        if subprocess.run([PROGRAM, 'verify', design, arrivals], capture_output=True).returncode == 0:
+        status = subprocess.run([PROGRAM, 'verify', design, arrivals], capture_output=True).returncode
+        if status not in (0, 1):
+            raise SystemExit('test_machine: %s ends with status %d' % (PROGRAM, status))
+        if status == 0:
             yield seed, design, arrivals
             count -= 1
         seed += 1
@@ -121,9 +125,12 @@ class RandomDesigns(unittest.TestCase):
 
 def rows(first: int, count: int) -> None:
     """Writes a row of what was found for each design."""
+    print(COLUMNS, flush=True)
     with tempfile.TemporaryDirectory() as room:
         for seed, design, _, answer in run_designs(first, count, room):
             words = answer.said.split()
+            lines = words[2] if words[:2] == ['same:', 'all'] else ''
+            result = 'same' if answer.status == 0 else 'status %d' % answer.status
             log = os.path.join(answer.kept, 'log')
             accepted = replayed = is_trace = '-'
             if os.path.exists(log):
@@ -133,8 +140,7 @@ def rows(first: int, count: int) -> None:
                                         capture_output=True, env=dict(os.environ, PROGRAM=PROGRAM)).returncode
                 replayed = {0: 'same', 1: 'different'}.get(status, 'none')
                 is_trace = 'yes' if answer.read('log') == answer.read('trace') else 'no'
-            print(','.join((str(seed), words[2] if words[:2] == ['same:', 'all'] else '', 'same' if answer.status == 0 else 'status %d' % answer.status,
-                            accepted, replayed, is_trace)), flush=True)
+            print(','.join((str(seed), lines, result, accepted, replayed, is_trace)), flush=True)
 
 
 def main() -> None:

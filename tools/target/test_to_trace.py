@@ -53,7 +53,8 @@ class Traces(unittest.TestCase):
         self.assertEqual(to_trace.trace_of(program(), ARRIVALS, STEPS), TRACE)
 
     def test_what_a_run_does_otherwise_stands_in_its_trace(self) -> None:
-        for old, new, wanted in ((' 33 put 2 2', ' 34 put 2 3', '34 put printer 3'), (' 28 end 3 used 5', ' 29 end 3 used 6', '29 end button used 6')):
+        for old, new, wanted in ((' 33 put 2 2', ' 34 put 2 3', '34 put printer 3'),
+                                 (' 28 end 3 used 5', ' 29 end 3 used 6', '29 end button used 6')):
             trace = to_trace.trace_of(program(), ARRIVALS, STEPS.replace(old, new))
             self.assertEqual(set(trace.splitlines()) - set(TRACE.splitlines()), {wanted})
 
@@ -81,7 +82,8 @@ class Traces(unittest.TestCase):
 class Durations(unittest.TestCase):
     def test_the_first_statements_give_first(self) -> None:
         statements = [(0, 5), (0, 3), (-1, 1), (1, 4)]
-        for missing, wanted in (([0, 0], [5, 3, 1, 4]), ([3, 0], [2, 3, 1, 4]), ([5, 1], [1, 2, 1, 3]), ([9, 9], [1, 1, 1, 1]), ([-1, 2], [5, 3, 1, 2])):
+        for missing, wanted in (([0, 0], [5, 3, 1, 4]), ([3, 0], [2, 3, 1, 4]), ([5, 1], [1, 2, 1, 3]), ([9, 9], [1, 1, 1, 1]),
+                                ([-1, 2], [5, 3, 1, 2])):
             self.assertEqual(to_trace.durations(statements, missing), wanted)
 
 
@@ -147,7 +149,8 @@ class Words(unittest.TestCase):
     def test_statuses(self) -> None:
         with tempfile.TemporaryDirectory() as room:
             paths = {}
-            for name, content in (('text', test_target.HEAD + example('every_kind.ada')), ('arrivals', ARRIVALS), ('run', STEPS), ('none', 'hello\n')):
+            for name, content in (('text', test_target.HEAD + example('every_kind.ada')), ('arrivals', ARRIVALS), ('run', STEPS),
+                                  ('none', 'hello\n')):
                 paths[name] = os.path.join(room, name)
                 with open(paths[name], 'w') as stream:
                     stream.write(content)

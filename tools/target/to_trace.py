@@ -168,7 +168,8 @@ def durations(statements: list[tuple[int, int]], missing: list[int]) -> list[int
 
 def lists_of(replayer: Replayer, log: list[Event]) -> Lists:
     """Returns WORK lists under which the replay uses as many ticks as the log, as far as there are some."""
-    wanted, lists = used_of(log), Lists()
+    wanted = used_of(log)
+    lists: Lists = {}
     for _ in range(ROUNDS):
         found = used_of(replayer.replay(lists))
         if all(found.get(task, [])[:len(ticks)] == ticks[:len(found.get(task, []))] for task, ticks in wanted.items()):

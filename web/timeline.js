@@ -11,37 +11,11 @@ const FAR = "Too much happens here to be drawn: each height is the greatest resp
 const NEAR = "Drag to move, double-click to go closer; Ctrl and the wheel change the size. "
   + "Who runs follows from the trace; that is tested, and not proved.";
 
-const LEGEND = [
-  ["arrow", "release"], ["hollow", "release by a request from outside"], ["deadline", "deadline"], ["kept", "release to bound"], ["runs", "runs"],
-  ["object-0", "runs inside an object, at its ceiling"], ["waits", "ready, preempted"], ["blocked", "ready, blocked by lower priority"],
-  ["end", "end, response time"], ["diamond", "put"], ["request", "request"],
-];
-
-/** A small picture of a mark. */
-function markPicture(kind) {
-  const canvas = new Canvas(22, 22, null);
-  if (kind === "arrow" || kind === "hollow") {
-    canvas.path("arrow", "M11 21v-14");
-    canvas.path(kind === "hollow" ? "head hollow" : "head", "M11 1l-3.5 7h7z");
-  } else if (kind === "deadline") {
-    canvas.path("deadline", "M11 1v16");
-    canvas.path("deadline-head", "M11 21l-3.5 -7h7z");
-  } else if (kind === "kept") {
-    canvas.box("kept", 1, 2, 20, 18);
-    canvas.path("kept-end", "M21 2v18");
-  } else if (kind === "waits") canvas.box("waits", 1, 14, 20, 4);
-  else if (kind === "blocked") canvas.box("blocked", 1, 9, 20, 9);
-  else if (kind === "end") canvas.add("circle", { class: "end", cx: 11, cy: 11, r: 3.5 });
-  else if (kind === "diamond") canvas.path("diamond", "M11 6l4 5l-4 5l-4-5z");
-  else if (kind === "request") canvas.path("request", "M11 0v22");
-  else canvas.box(`part ${kind}`, 1, kind === "runs" ? 5 : 1, 20, kind === "runs" ? 13 : 18);
-  return canvas.root;
-}
-
 function legend() {
   return make("div", { class: "legend" }, ...LEGEND.map(([kind, words]) => {
     const made = make("span", { class: "key" });
-    made.append(markPicture(kind), words);
+    made.innerHTML = pictureOf(MARK, MARK, null, ...marksOf(kind));
+    made.append(words);
     return made;
   }));
 }
@@ -51,6 +25,7 @@ class Timeline {
     this.panel = panel;
     this.style = style;
     this.trace = null;
+    this.markup = ""; // of the window that is shown
     this.from = 0;
     this.to = 1;
     this.moves = {
@@ -191,11 +166,13 @@ class Timeline {
     const isFar = this.trace.countBetween(this.from, this.to) > MOST_EVENTS;
     try {
       this.run = isFar ? null : new Run(this.trace, this.from, this.to);
-      this.holder.replaceChildren(isFar ? new Heights(this.trace, this.from, this.to, width).draw() : new Chart(this.run, width).draw());
+      this.markup = isFar ? new Heights(this.trace, this.from, this.to, width).draw() : new Chart(this.run, width).draw();
+      this.holder.innerHTML = this.markup;
       this.note.textContent = isFar ? FAR : NEAR;
       this.legend.hidden = isFar;
     } catch (fault) {
       this.run = null;
+      this.markup = element("svg", {}, "");
       this.holder.replaceChildren();
       this.note.textContent = `This window can't be drawn: ${fault.message}.`;
     }
@@ -220,11 +197,6 @@ class Timeline {
 
   /** The picture as a file, which needs nothing of the page. */
   picture() {
-    const copy = this.holder.querySelector("svg")?.cloneNode(true) ?? draw("svg", {});
-    const rules = draw("style", {});
-    rules.textContent = this.style;
-    copy.prepend(rules);
-    copy.setAttribute("xmlns", SVG);
-    return new XMLSerializer().serializeToString(copy);
+    return asFile(this.markup, this.style);
   }
 }

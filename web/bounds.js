@@ -47,11 +47,12 @@ function barOf({ name, cost = undefined, response, deadline }) {
   const width = 120;
   const told = `${cost === undefined ? "" : `cost ${cost} and `}response ${response} of deadline ${deadline}`;
   const part = (kind, ticks) =>
-    mark("rect", { class: kind, x: 0, y: 2, width: Math.max(1, width * Math.min(1, ticks / deadline)), height: 10, rx: 2 });
-  const parts = [mark("rect", { class: "deadline", x: 0, y: 2, width, height: 10, rx: 2 }), part("response", response)];
-  if (cost !== undefined) parts.push(part("cost", cost));
+    draw("rect", { class: kind, x: 0, y: 2, width: Math.max(1, width * Math.min(1, ticks / deadline)), height: 10, rx: 2 });
+  const picture = draw("svg", { class: "meter", width, height: 14, role: "img", "aria-label": `${name}: ${told}` }, told);
+  picture.append(draw("rect", { class: "deadline", x: 0, y: 2, width, height: 10, rx: 2 }), part("response", response));
+  if (cost !== undefined) picture.append(part("cost", cost));
   const cell = make("td", { class: "fill" });
-  cell.innerHTML = element("svg", { class: "meter", width, height: 14, role: "img", "aria-label": `${name}: ${told}` }, `<title>${escaped(told)}</title>`, ...parts);
+  cell.innerHTML = picture.write();
   return cell;
 }
 

@@ -1,6 +1,6 @@
 // Draws a run as SVG, in a window of its time. Who runs is told by traces.js.
 import { TICKS } from "./clock.js";
-import { element, mark, short, words as textAt } from "./svg.js";
+import { draw, short, textAt } from "./markup.js";
 
 const COLOURS = 12; // of objects, as in chart.css
 
@@ -15,17 +15,17 @@ function objectsByCeiling(program) {
 
 /** A stripe of a pattern on its ground, if it has one. */
 function stripes(id, step, ground) {
-  const inside = [mark("rect", { width: 2.5, height: step, class: `${id}-stripe` })];
-  if (ground !== null) inside.unshift(mark("rect", { width: step, height: step, class: ground }));
-  return element("pattern", { id, width: step, height: step, patternUnits: "userSpaceOnUse", patternTransform: "rotate(45)" }, ...inside);
+  const made = draw("pattern", { id, width: step, height: step, patternUnits: "userSpaceOnUse", patternTransform: "rotate(45)" });
+  if (ground !== null) made.append(draw("rect", { width: step, height: step, class: ground }));
+  return made.append(draw("rect", { width: 2.5, height: step, class: `${id}-stripe` }));
 }
 
 /** A picture of so many pixels. With a name it has the patterns too; without one it is a mark beside a chart, which has them. */
 export function pictureOf(width, height, name, ...inside) {
   const told = name === null ? { "aria-hidden": "true" } : { role: "img", "aria-label": name };
-  const patterns = name === null ? [] : [element("defs", {}, stripes("blocked", 5, "blocked-ground"), stripes("doubt", 6, null))];
-  const paper = mark("rect", { class: "paper", width, height });
-  return element("svg", { width, height, viewBox: `0 0 ${width} ${height}`, class: "timeline", ...told }, ...patterns, paper, ...inside);
+  const made = draw("svg", { width, height, viewBox: `0 0 ${width} ${height}`, class: "timeline", ...told });
+  if (name !== null) made.append(draw("defs", {}).append(stripes("blocked", 5, "blocked-ground"), stripes("doubt", 6, null)));
+  return made.append(draw("rect", { class: "paper", width, height }), ...inside);
 }
 
 /** The marks of a picture, in the order in which they are drawn. */
@@ -35,7 +35,7 @@ export class Canvas {
   }
 
   add(name, attributes, title = undefined) {
-    this.marks.push(mark(name, attributes, title));
+    this.marks.push(draw(name, attributes, title));
   }
 
   text(x, y, text, kind = "") {
@@ -151,8 +151,10 @@ export function usedObjects(run, parts) {
  * The picture of a run in its window, or in the part of it from the tick `from` to `to`; `parts` are those of the run, where they are found already.
  */
 export class Chart extends Frame {
-  constructor(run, width, { from = run.start, to = run.end, parts = run.parts(), ...more } = {}) {
-    super(run.program, from, to, usedObjects(run, parts), width, more);
+  /** @param {any} more */
+  constructor(run, width, more = {}) {
+    const { from = run.start, to = run.end, parts = run.parts(), ...others } = more;
+    super(run.program, from, to, usedObjects(run, parts), width, others);
     this.run = run;
     this.parts = parts;
     this.waits = run.waits();

@@ -1,7 +1,7 @@
 // A run as one picture that stands by itself: a head, what the marks mean, panels of lanes one below the other, and a table of the whole trace.
 import { TICKS } from "./clock.js";
 import { Chart, LEGEND, MARK, marksOf, pictureOf, tasksByPriority, Canvas } from "./chart.js";
-import { element } from "./svg.js";
+import { group } from "./markup.js";
 
 const EDGE = 14; // pixels beside words
 const LATE = "late ends"; // those over their bound
@@ -9,13 +9,14 @@ const DOUBT = ["doubt", "in doubt, see its title"];
 
 /** Marks that are moved. */
 function movedBy(x, y, marks) {
-  return element("g", { transform: `translate(${x} ${y})` }, ...marks);
+  return group({ transform: `translate(${x} ${y})` }, ...marks);
 }
 
 /** The columns of the table in which something stands: a head, what stands in the rows, and whether that is a word. */
 function columnsOf(trace, clock) {
   const time = (ticks) => (ticks === null ? null : clock.number(ticks));
   const totals = (task) => trace.totals.get(task.name);
+  /** @type {[string, (task: any) => any][]} */
   const columns = [
     ["task", (task) => task.name], ["kind", (task) => task.kind()], ["priority", (task) => task.priority], ["period", (task) => time(task.period)],
     ["deadline", (task) => time(task.deadline)], ["jitter", (task) => time(task.jitter)], ["cost", (task) => time(task.cost)],
@@ -30,7 +31,11 @@ function columnsOf(trace, clock) {
 /** The picture of a run of so many pixels, in panels of so many ticks. */
 export class Sheet {
   constructor(run, width, { fold = run.end - run.start, title = `Run of ${run.program.design}`, clock = TICKS } = {}) {
-    Object.assign(this, { run, width, fold, title, clock });
+    this.run = run;
+    this.width = width;
+    this.fold = fold;
+    this.title = title;
+    this.clock = clock;
     this.parts = run.parts();
     this.canvas = new Canvas();
     this.y = 0;

@@ -14,7 +14,7 @@ const NEAR = "Drag to move, double-click to go closer; Ctrl and the wheel change
 function legend() {
   return make("div", { class: "legend" }, ...LEGEND.map(([kind, words]) => {
     const made = make("span", { class: "key" });
-    made.innerHTML = pictureOf(MARK, MARK, null, ...marksOf(kind));
+    made.innerHTML = pictureOf(MARK, MARK, null, ...marksOf(kind)).write();
     made.append(words);
     return made;
   }));
@@ -25,7 +25,7 @@ class Timeline {
     this.panel = panel;
     this.style = style;
     this.trace = null;
-    this.markup = ""; // of the window that is shown
+    this.drawn = draw("svg", {}); // of the window that is shown
     this.from = 0;
     this.to = 1;
     this.moves = {
@@ -166,13 +166,13 @@ class Timeline {
     const isFar = this.trace.countBetween(this.from, this.to) > MOST_EVENTS;
     try {
       this.run = isFar ? null : new Run(this.trace, this.from, this.to);
-      this.markup = isFar ? new Heights(this.trace, this.from, this.to, width).draw() : new Chart(this.run, width).draw();
-      this.holder.innerHTML = this.markup;
+      this.drawn = isFar ? new Heights(this.trace, this.from, this.to, width).draw() : new Chart(this.run, width).draw();
+      this.holder.innerHTML = this.drawn.write();
       this.note.textContent = isFar ? FAR : NEAR;
       this.legend.hidden = isFar;
     } catch (fault) {
       this.run = null;
-      this.markup = element("svg", {}, "");
+      this.drawn = draw("svg", {});
       this.holder.replaceChildren();
       this.note.textContent = `This window can't be drawn: ${fault.message}.`;
     }
@@ -197,6 +197,6 @@ class Timeline {
 
   /** The picture as a file, which needs nothing of the page. */
   picture() {
-    return asFile(this.markup, this.style);
+    return asFile(this.drawn, this.style);
   }
 }

@@ -15,8 +15,8 @@ import { dirname, join } from "node:path";
 import { fileURLToPath } from "node:url";
 import { parseArgs } from "node:util";
 import { Clock, TICKS, microsecondsOf } from "../../web/clock.js";
+import { asFile } from "../../web/markup.js";
 import { Sheet } from "../../web/sheet.js";
-import { asFile } from "../../web/svg.js";
 import { Fault, Run, Trace, listed, readAnalysis, readProgram, splitOutput } from "../../web/traces.js";
 
 const STYLE = join(dirname(dirname(dirname(fileURLToPath(import.meta.url)))), "web", "chart.css");

@@ -21,7 +21,7 @@ from typing import Any
 TOP = os.path.dirname(os.path.dirname(os.path.dirname(os.path.abspath(__file__))))
 # Modules, each behind those that it imports, with what the scripts of the page use of them; then the scripts, which share their names.
 MODULES = (('design_text', ('tokensOf',)), ('places', ('markOf',)), ('refusals', ('Refusals',)), ('clock', ()),
-           ('svg', ('asFile', 'element', 'escaped', 'mark')), ('traces', ('ProgramReader', 'Run', 'Trace', 'listed', 'readEvent', 'readProgram')),
+           ('markup', ('asFile', 'draw')), ('traces', ('ProgramReader', 'Run', 'Trace', 'listed', 'readEvent', 'readProgram')),
            ('chart', ('Chart', 'Heights', 'LEGEND', 'MARK', 'RIGHT', 'leftOf', 'marksOf', 'pictureOf', 'tasksByPriority')))
 SCRIPTS = ('texts', 'runs', 'trace_places', 'bounds', 'timeline', 'verbs', 'page')
 # What the page calls an example, and its texts: a design, arrivals and for some a trace.

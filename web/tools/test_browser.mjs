@@ -192,13 +192,11 @@ async function tryPrinted(page) {
 
 // ---- The timeline, and what is saved ----
 
-const LEGEND = new Set(["release", "release by a request from outside", "deadline"]);
-
-/** The titles of all marks in the window as tools/report/chart.py draws it. */
+/** The titles of all marks in the window as tools/report/chart.mjs draws it from what the program writes. */
 function chartTitles(output, from, to) {
-  const drawn = spawnSync("python3", [join(TOP, "tools/report/chart.py"), "--from", String(from), "--to", String(to)], { input: output, maxBuffer: MOST });
-  const titles = [...drawn.stdout.toString().matchAll(/<title>([^<]*)<\/title>/g)].map((found) => found[1]).slice(1);
-  return titles.filter((title) => !LEGEND.has(title)).sort();
+  const words = [join(TOP, "tools/report/chart.mjs"), "--from", String(from), "--to", String(to)];
+  const drawn = spawnSync(process.execPath, words, { input: output, maxBuffer: MOST });
+  return [...drawn.stdout.toString().matchAll(/<title>([^<]*)<\/title>/g)].map((found) => found[1]).sort();
 }
 
 /** @type {[string, string, number[][]][]} */
@@ -234,7 +232,7 @@ async function tryTimeline(page) {
       count += found.length;
     }
   }
-  console.log(`${count} marks of the timeline as tools/report/chart.py draws them`);
+  console.log(`${count} marks of the timeline as tools/report/chart.mjs draws them`);
 }
 
 /** The window moves by keys and by the mouse. */

@@ -7,7 +7,7 @@ import { Diagram, MOST_WHOLE } from "./diagram.js";
 import { slackOf, utilisationOf, wrongSums } from "./explanation.js";
 import { htmlOf } from "./markup.js";
 import { objectAt } from "./outline.js";
-import { boundTable, ceilingTable, chainTable, htmlTable, objectTable, tableOfLines, termTable } from "./tables.js";
+import { boundTable, ceilingTable, chainTable, hardTable, htmlTable, objectTable, tableOfLines, termTable } from "./tables.js";
 import { Run, Trace, readProgram } from "./traces.js";
 
 /**
@@ -25,6 +25,7 @@ import { Run, Trace, readProgram } from "./traces.js";
  * @property {number|null} at
  * @property {boolean} isBackground
  * @property {any} explanation
+ * @property {any[]} hard
  * @property {{ perMille: number, next: string }|null} scale
  * @property {string|null} margins
  * @property {string|null} changes
@@ -102,6 +103,7 @@ export class Report {
       for (const clock of this.clocks) tables.push(boundTable(explanation, clock));
       tables.push(termTable(explanation, TICKS), chainTable(explanation, TICKS), ceilingTable(explanation, this.outline));
     }
+    if (given.isBackground) for (const clock of this.clocks) tables.push(hardTable(given.hard, clock));
     if (margins !== null) tables.push(tableOfLines("margins", "How far the work of each thread alone may grow, in per mille of what it is", margins, [0, 5]));
     if (changes !== null) tables.push(tableOfLines("changes", "The least change of one number by which the design passes", changes, [0, 1, 6]));
     return tables.filter(({ rows }) => rows.length > 0);
@@ -126,6 +128,7 @@ export class Report {
       parts.push(sectionOf("bounds", "Bounds", tableOf("bounds"), tableOf("bounds_ms"), words, tableOf("chains")), this.barPart(tableOf("terms")),
         sectionOf("ceilings", "Ceilings", tableOf("ceilings") ?? htmlOf("p", {}, "No object has a ceiling.")));
     }
+    if (this.given.isBackground) parts.push(sectionOf("bounds", "Bounds of the hard threads", tableOf("hard"), tableOf("hard_ms")));
     parts.push(this.marginPart(tableOf("margins")), this.changePart(tableOf("changes")), ...this.given.runs.map((run, place) => this.runPart(run, place)),
       this.inputs());
     return parts.filter((part) => part !== null);
@@ -214,6 +217,7 @@ export class Report {
 
   /** The bounds that a diagram shows: those of threads that have a response. */
   knownBounds() {
+    if (this.given.isBackground) return { threads: this.given.hard, ceilings: [] };
     if (this.explanation === null) return null;
     const { threads, ceilings } = this.explanation;
     return { threads: threads.filter((one) => one.response !== null), ceilings };

@@ -37,6 +37,13 @@ export function boundTable({ threads }, clock) {
     heads: ["Thread", "Priority", "Period", "Deadline", "Jitter", "Cost", "Blocking", "Response", "Slack", "Before the next release", "Utilisation"] };
 }
 
+/** The bounds of the hard threads of a design with background objects, as far as the head of its Ada text tells them. */
+export function hardTable(threads, clock) {
+  const rows = threads.map((one) => [one.name, one.priority, ...[one.deadline, one.jitter, one.response, slackOf(one)].map((ticks) => timeIn(ticks, clock))]);
+  return { id: clock.unit === "ticks" ? "hard" : "hard_ms", caption: `Hard threads, by priority; times in ${clock.unit}`, rows, words: [0],
+    heads: ["Thread", "Priority", "Deadline", "Jitter", "Response", "Slack"] };
+}
+
 /** What the terms of each response are, and of blocking which section it is. */
 export function termTable({ threads }, clock) {
   const rows = threads.flatMap((one) => [

@@ -149,7 +149,7 @@ export class Report {
     const { refused, words } = this.given;
     const made = htmlOf("div", { class: `verdict ${this.isMet ? "good" : "bad"}`, id: "verdict" });
     if (refused !== null) {
-      return made.append(htmlOf("strong", {}, words[0] ?? refused), ...words.slice(1).map((one) => htmlOf("p", {}, one)), this.lateness(),
+      return made.append(htmlOf("strong", {}, ...inlineOf(words[0] ?? refused)), ...words.slice(1).map((one) => htmlOf("p", {}, ...inlineOf(one))), this.lateness(),
         htmlOf("p", {}, htmlOf("code", {}, refused)));
     }
     return made.append(htmlOf("strong", {}, `Every deadline of ${this.whose()} is met on the modelled processor, under all arrivals that keep their `
@@ -187,7 +187,7 @@ export class Report {
     const used = this.given.isBackground ? ["background", "replay"] : ["explain", "analyse", "verify"];
     const rows = verbs.filter(([verb]) => used.includes(verb));
     const share = this.given.isBackground ? ["No bound, no deadline and no share of the time is promised of clients and servers."] : [];
-    const answer = this.isMet ? "" : "What is refused is refused by such an answer. ";
+    const answer = this.isMet ? "" : "The refusal is an answer of that program too. ";
     return sectionOf("proof", "What is proved, and what is not", htmlOf("div", { class: "claims" },
       htmlOf("div", {}, htmlOf("h3", {}, "Proved"), htmlOf("p", {}, answer, ...inlineOf(promise)),
         htmlOf("ul", {}, ...rows.map(([verb, done]) => htmlOf("li", {}, htmlOf("code", {}, verb), " writes ", ...inlineOf(done), ".")))),
@@ -261,7 +261,7 @@ export class Report {
     const [id, head] = [`run-${place + 1}`, `A run under ${run.name}`];
     if (run.refused !== undefined) {
       const [first, ...more] = run.words ?? [];
-      return sectionOf(id, head, htmlOf("p", { class: "wrong" }, first ?? "There is no run."), more.map((words) => htmlOf("p", {}, words)),
+      return sectionOf(id, head, htmlOf("p", { class: "wrong" }, ...inlineOf(first ?? "There is no run.")), more.map((words) => htmlOf("p", {}, ...inlineOf(words))),
         htmlOf("p", {}, htmlOf("code", {}, run.refused)));
     }
     const lines = run.lines ?? [];

@@ -10,43 +10,20 @@
 // ticks, in panels of --fold ticks, --width pixels wide. --analysis has what `analyse` writes: costs and blocking for the table. Times are ticks, and
 // milliseconds by the TICK of the design of --milliseconds. With --list who runs when is written as lines, in ticks. A text or trace that can't be
 // read is told in one line, with status 2. Who runs follows from the trace, which is tested, and not proved.
-import { readFileSync } from "node:fs";
-import { dirname, join } from "node:path";
-import { fileURLToPath } from "node:url";
 import { parseArgs } from "node:util";
-import { Clock, TICKS, microsecondsOf } from "../../web/clock.js";
 import { asFile } from "../../web/markup.js";
 import { Sheet } from "../../web/sheet.js";
 import { Fault, Run, Trace, listed, readAnalysis, readProgram, splitOutput } from "../../web/traces.js";
+import { clockOf, numberOf, run, styleOf, textOf } from "./words.mjs";
 
-const STYLE = join(dirname(dirname(dirname(fileURLToPath(import.meta.url)))), "web", "chart.css");
 const WINDOW = 300; // ticks
 const NARROWEST = 360; // pixels
 const TEXT = /** @type {const} */ ({ type: "string" });
 const OPTIONS = { from: TEXT, to: TEXT, fold: TEXT, width: TEXT, text: TEXT, analysis: TEXT, milliseconds: TEXT, title: TEXT,
   list: /** @type {const} */ ({ type: "boolean" }) };
 
-/** The bytes of a file, or of standard input, as characters. */
-function textOf(/** @type {string} */ path) {
-  return readFileSync(path === "-" ? 0 : path, "latin1");
-}
-
-/** The number that an option has, at least so much. */
-function numberOf(/** @type {Record<string, any>} */ values, /** @type {string} */ name, /** @type {number} */ usual, /** @type {number} */ least) {
-  const text = values[name];
-  if (text === undefined) return usual;
-  if (!/^[0-9]+$/.test(text) || Number(text) < least) throw new Fault(`--${name} is a number, at least ${least}`);
-  return Number(text);
-}
-
-function clockOf(/** @type {string|undefined} */ design) {
-  if (design === undefined) return TICKS;
-  const microseconds = microsecondsOf(textOf(design));
-  if (microseconds === null) throw new Fault(`${design} has no TICK, so its times are ticks alone`);
-  return new Clock(microseconds);
-}
-
-function main() {
+/** What is written for the words. */
+function drawn() {
   const { values, positionals } = parseArgs({ allowPositionals: true, options: OPTIONS });
   if (positionals.length > 1) throw new Fault("give it one trace");
   const from = numberOf(values, "from", 0, 0);
@@ -61,15 +38,13 @@ function main() {
   if (values.analysis !== undefined) readAnalysis(textOf(values.analysis), program);
   const trace = new Trace(program, lines);
   if (trace.last > 0 && trace.last <= from) throw new Fault(`the trace ends at tick ${trace.last}, before the window`);
-  const run = new Run(trace, from, to);
-  if (values.list) return listed(run).map((/** @type {string} */ line) => `${line}\n`).join("");
+  const part = new Run(trace, from, to);
+  if (values.list) return listed(part).map((/** @type {string} */ line) => `${line}\n`).join("");
   const title = values.title ?? `Run of ${program.design}`;
-  return asFile(new Sheet(run, width, { fold, title, clock }).draw(), readFileSync(STYLE, "utf8"));
+  return asFile(new Sheet(part, width, { fold, title, clock }).draw(), styleOf("chart"));
 }
 
-try {
-  process.stdout.write(main());
-} catch (fault) {
-  console.error(`chart: ${fault instanceof Error ? fault.message.split("\n")[0] : fault}`);
-  process.exitCode = 2;
-}
+run("chart", () => {
+  process.stdout.write(drawn());
+  return 0;
+});

@@ -9,12 +9,9 @@
 // arrivals. Margins of single threads take many runs of the program (margins.py); --brief leaves them out. PROGRAM is the path of the program, and the
 // proved program of this repository where it isn't set. A design that is refused gets a report as well, with what is refused. Status 0: every deadline
 // is met, and there is a run under all of the arrivals; 1: the design or some arrivals are refused; 2: there is no report. It claims no proof.
-import { spawnSync } from "node:child_process";
-import { createHash } from "node:crypto";
-import { existsSync, mkdtempSync, readFileSync, rmSync, writeFileSync } from "node:fs";
+import { mkdtempSync, readFileSync, rmSync, writeFileSync } from "node:fs";
 import { tmpdir } from "node:os";
-import { basename, join, resolve } from "node:path";
-import { env } from "node:process";
+import { basename, join } from "node:path";
 import { parseArgs } from "node:util";
 import { microsecondsOf } from "../../web/clock.js";
 import { readExplanation } from "../../web/explanation.js";
@@ -24,48 +21,10 @@ import { Refusals } from "../../web/refusals.js";
 import { Report, guaranteeOf } from "../../web/report.js";
 import { csvOf, latexOf } from "../../web/tables.js";
 import { splitOutput } from "../../web/traces.js";
-import { TOP, Unusable, run, styleOf, textOf } from "./words.mjs";
+import { TOP, Unusable, programOf, run, styleOf, sumOf, textOf } from "./words.mjs";
 
-const MOST = 1 << 30; // bytes of an answer
 const OPTIONS = /** @type {const} */ ({ brief: { type: "boolean" }, csv: { type: "boolean" }, latex: { type: "boolean" } });
 const refusals = new Refusals(JSON.parse(readFileSync(join(TOP, "web", "refusals.json"), "utf8")));
-
-/** The program of a path, with its answers. */
-class Program {
-  constructor(/** @type {string} */ path) {
-    this.path = path;
-    if (!existsSync(path)) throw new Unusable(`there is no program ${path}; tools/gate/prove_program.sh makes it`);
-  }
-
-  /** Its answer to words: the status, what it writes, and the line of a refusal. */
-  ask(/** @type {string[]} */ ...words) {
-    const { status, stdout, stderr, error } = spawnSync(this.path, words, { encoding: "utf8", maxBuffer: MOST, env: { ...env, HRTHOOD_WORDS: "never" } });
-    if (error !== undefined) throw new Unusable(`${this.path}: ${error.message}`);
-    const line = stderr.split("\n").filter((/** @type {string} */ one) => one !== "" && !one.startsWith("hrthood: ")).at(-1) ?? "";
-    if (status > 1) throw new Unusable(`${words.join(" ")}: ${line === "" ? `status ${status}` : line}`);
-    return { status, out: stdout, line };
-  }
-
-  /** What it is made of: its checksum, and that of its sources where a mark beside it tells that. */
-  identity() {
-    const mark = `${this.path}.made`;
-    const told = existsSync(mark) ? [...readFileSync(mark, "utf8").matchAll(/^(sources|kit) (.*)$/gm)].map(([, what, which]) => [`Its ${what}`, which]) : [];
-    return [["Program", this.path], ["Program, SHA-256", sumOf(readFileSync(this.path))], ...told];
-  }
-
-  /** What a script of this folder writes of a design with this program, as comma-separated values. */
-  script(/** @type {string} */ name, /** @type {string} */ design) {
-    const { status, stdout, stderr } = spawnSync("python3", [join(TOP, "tools", "report", name), "--csv", design],
-      { encoding: "utf8", env: { ...env, PROGRAM: this.path } });
-    if (status === 0) return stdout;
-    console.error(`report: ${name} has no table: ${(stderr ?? "python3 isn't there").trim().split("\n").at(-1)}`);
-    return null;
-  }
-}
-
-function sumOf(/** @type {unknown} */ data) {
-  return createHash("sha256").update(data).digest("hex");
-}
 
 /** The words for a line of a refusal, with the place of it. */
 function wordsFor(/** @type {string} */ line, /** @type {Record<string, string>} */ texts) {
@@ -76,7 +35,7 @@ function wordsFor(/** @type {string} */ line, /** @type {Record<string, string>}
 }
 
 /** The run of a design under arrivals: of its own Ada text, or of that which `background` made. */
-function runUnder(/** @type {Program} */ program, /** @type {string} */ design, /** @type {string} */ path, /** @type {string|null} */ ada) {
+function runUnder(/** @type {import("./words.mjs").Program} */ program, /** @type {string} */ design, /** @type {string} */ path, /** @type {string|null} */ ada) {
   const text = textOf(path);
   const found = { name: basename(path), text };
   const room = mkdtempSync(join(tmpdir(), "report-"));
@@ -110,7 +69,7 @@ run("report", () => {
   if (design === undefined) throw new Unusable("give it a design, and arrivals if you like");
   if (values.csv && values.latex) throw new Unusable("the tables are written as --csv or as --latex, and not as both");
   const text = textOf(design);
-  const program = new Program(resolve(env.PROGRAM ?? join(TOP, "crates", "hrthood", "out", "hrthood")));
+  const program = programOf();
   const analysed = program.ask("analyse", design);
   const explained = program.ask("explain", design);
   const background = explained.status === 0 ? null : program.ask("background", design);

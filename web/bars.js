@@ -10,6 +10,7 @@ const LINE = 13; // one of these
 const BAR = 22;
 const NAMES = 170; // beside the bars
 const NUMBERS = 150;
+const CHAINS = "Chains of requests";
 const ABOVE = "a thread of greater priority, in the colour of its own cost";
 
 /** A share as a percentage without digits, and `under 1 %` where that would be 0. */
@@ -56,7 +57,7 @@ export class Bars {
     let y = 6;
     for (const thread of this.threads) y = this.drawThread(thread, y, rows);
     if (this.chains.length > 0) {
-      rows.push(textAt(8, y + 14, "Chains of requests, from the release of the first thread to the end of the last", "name"));
+      rows.push(textAt(8, y + 14, this.isNarrow ? CHAINS : `${CHAINS}, from the release of the first thread to the end of the last`, "name"));
       y += 28;
       for (const chain of this.chains) y = this.drawChain(chain, y, rows);
     }

@@ -379,6 +379,7 @@ function drawFlows(x, y, flows) {
 class Legend {
   constructor(width, hasBackground) {
     const kinds = [...Object.entries(LETTERS), ...(hasBackground ? [["background", LETTERS.active]] : [])];
+    /** @type {any[]} */
     this.items = [
       ...kinds.map(([kind, letter]) => ({ words: kind, width: 28, draw: (x, y) => this.kind(x, y, kind, letter) })),
       { words: "uses", width: 30, draw: (x, y) => this.arrow(x, y, "use") },

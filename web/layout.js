@@ -53,6 +53,11 @@ function placedNear(slots, wanted, weights) {
  * by the keys of nets. Where `isFree` its outs may stand anywhere, from `first` on. A net has a `key`, `sources`, which are boxes, or entries of
  * the left edge by `entry`, and a `target`: a box and its `port`, or null for the right edge. `words` are the pixels that it needs there. */
 export class Level {
+  /** @type {any} */
+  spans; // of the tracks of gaps between layers
+  /** @type {any} */
+  starts; // where layers begin
+
   constructor(boxes, nets, entries) {
     this.boxes = boxes;
     this.nets = nets;
@@ -103,7 +108,7 @@ export class Level {
       return depths.get(box);
     };
     const joined = new Set(this.nets.flatMap(({ sources, target }) => [...sources.map((one) => one.box), target?.box]));
-    const sorted = [...this.boxes].sort((one, other) => joined.has(other) - joined.has(one) || depthOf(one) - depthOf(other));
+    const sorted = [...this.boxes].sort((one, other) => Number(joined.has(other)) - Number(joined.has(one)) || depthOf(one) - depthOf(other));
     const [full, heights, levels] = [this.fullHeight(), [], new Map()];
     for (const box of sorted) {
       // From the right on: a box stands before all that it uses, in the first layer with room. One that is alone stands where most room is.

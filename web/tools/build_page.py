@@ -20,10 +20,14 @@ from typing import Any
 
 TOP = os.path.dirname(os.path.dirname(os.path.dirname(os.path.abspath(__file__))))
 # Modules, each behind those that it imports, with what the scripts of the page use of them; then the scripts, which share their names.
-MODULES = (('design_text', ('tokensOf',)), ('places', ('markOf',)), ('refusals', ('Refusals',)), ('clock', ()),
-           ('markup', ('asFile', 'draw')), ('traces', ('ProgramReader', 'Run', 'Trace', 'listed', 'readEvent', 'readProgram')),
+MODULES = (('design_text', ('tokensOf',)), ('places', ('markOf',)), ('refusals', ('Refusals',)), ('clock', ('Clock', 'TICKS', 'microsecondsOf')),
+           ('markup', ('asFile', 'draw', 'textAt')), ('outline', ('backgroundOf', 'objectAt', 'readOutline')), ('layout', ()),
+           ('diagram', ('Diagram', 'MOST_WHOLE', 'linesOfObject')),
+           ('explanation', ('partsOf', 'readExplanation', 'slackOf', 'spareOf', 'termsOf', 'utilisationOf', 'wrongSums')),
+           ('tables', ('chainTable',)), ('bars', ('Bars', 'scaleFor')), ('lifted', ('withLaterDeadlines', 'withoutBudgets')),
+           ('traces', ('ProgramReader', 'Run', 'Trace', 'listed', 'readEvent', 'readProgram')),
            ('chart', ('Chart', 'Heights', 'LEGEND', 'MARK', 'RIGHT', 'leftOf', 'marksOf', 'pictureOf', 'tasksByPriority')))
-SCRIPTS = ('texts', 'runs', 'trace_places', 'bounds', 'timeline', 'verbs', 'page')
+SCRIPTS = ('texts', 'runs', 'trace_places', 'bounds', 'timeline', 'explained', 'diagram_tab', 'verbs', 'page')
 # What the page calls an example, and its texts: a design, arrivals and for some a trace.
 EXAMPLES = (
     ('Mine pump', 'mine_pump.design', 'one_water_alarm.arrivals', 'one_water_alarm.trace'),
@@ -97,9 +101,9 @@ def main() -> None:
         sys.exit(f'build_page: not a line of version, sources and kit: {made}')
     with open(module, 'rb') as binary:
         encoded = base64.b64encode(binary.read()).decode()
-    chart = text_of('web', 'chart.css')
+    chart, diagram, bars = [text_of('web', name + '.css') for name in ('chart', 'diagram', 'bars')]
     whole = filled(text_of('web', 'page.html'), {
-        'STYLE': text_of('web', 'page.css') + chart,
+        'STYLE': text_of('web', 'page.css') + chart + diagram + bars,
         'HELP': text_of('web', 'help.html'),
         'VERDICT': html.escape(last_line),
         'MADE': html.escape(made),
@@ -108,6 +112,8 @@ def main() -> None:
         'KIT': html.escape(told[3]),
         'EXAMPLES': as_script(examples()),
         'CHART': as_script(chart),
+        'DIAGRAM': as_script(diagram),
+        'BARS': as_script(bars),
         'REFUSALS': as_script(json.loads(text_of('web', 'refusals.json'))),
         'WORKER': as_script(text_of('web', 'library_host.js') + text_of('web', 'library_worker.js')),
         'MODULE': encoded,

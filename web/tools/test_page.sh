@@ -18,6 +18,7 @@ if ! command -v node >/dev/null; then
     echo 'test_page: there is no node, so nothing else of the page is tested'
     exit "$failed"
 fi
+web/tools/test_lifted.mjs >out/page/lifted.txt || { cat out/page/lifted.txt; failed=1; }
 node web/tools/test_heap.mjs web/library_host.js || failed=1
 status=0
 web/tools/test_browser.mjs || status=$?

@@ -1,7 +1,7 @@
 // Of what each response is made, as bars: the thread's own cost, its blocking, what each thread above takes, and the slack or what is too much; and
 // chains of requests, as bars behind one another.
 import { TICKS } from "./clock.js";
-import { chainLinks, partsOf, slackOf, spareOf, termsOf } from "./explanation.js";
+import { chainBounds, partsOf, slackOf, spareOf, termsOf } from "./explanation.js";
 import { draw, group, short, textAt, widthOf } from "./markup.js";
 
 const HUES = 12; // of threads, as in bars.css
@@ -47,7 +47,8 @@ export class Bars {
     this.left = this.isNarrow ? 8 : NAMES;
     this.right = this.isNarrow ? 12 : NUMBERS;
     this.hues = new Map(threads.map((thread, index) => [thread.name, `hue-${index % HUES}`]));
-    this.longest = Math.max(1, ...threads.map((one) => Math.max(one.deadline, one.response ?? 0)), ...chains.map((one) => one.response));
+    this.longest = Math.max(1, ...threads.map((one) => Math.max(one.deadline, one.response ?? 0)),
+      ...chains.map((one) => Math.max(one.response, chainBounds(one, threads).sum)));
     this.room = width - this.left - this.right;
   }
 
@@ -178,29 +179,35 @@ export class Bars {
     if (more !== null) made.append(textAt(x, y + 36, more, "small bad"));
   }
 
-  /** Draws a chain at this height, the responses of its threads one behind the other, and returns the height of the next one. */
+  /**
+   * Draws a chain at this height, the responses of its threads one behind the other, with a stroke at its bound, the response of its thread of lowest
+   * priority. Returns the height of the next one.
+   */
   drawChain(chain, top, rows) {
     const { clock } = this;
-    const links = chainLinks(chain, this.threads);
+    const { links, lowest, sum: whole, isLowest } = chainBounds(chain, this.threads);
     const y = this.isNarrow ? top + 18 : top;
-    const pixels = this.room / (this.scale === "ticks" ? this.longest : chain.response);
+    const pixels = this.room / (this.scale === "ticks" ? this.longest : Math.max(whole, chain.response));
     const made = group({ class: "row chain", "data-chain": chain.name });
     if (this.isNarrow) made.append(textAt(this.left, y - 5, `to ${short(chain.name, 26)}: ${clock.span(chain.response)}`, "name"));
     else made.append(textAt(this.left - 12, y + 15, `to ${short(chain.name, 20)}`, "name right"));
     let x = this.left;
     for (const link of links) {
       const width = (link.response ?? 0) * pixels;
-      const title = `${link.name}: response ${clock.time(link.response ?? 0)} of ${clock.time(chain.response)}`;
+      const title = `${link.name}: response ${clock.time(link.response ?? 0)} of ${clock.time(whole)} together`;
       made.append(draw("rect", { class: `part own ${this.hues.get(link.name)}`, x, y, width: Math.max(0.8, width), height: BAR }, title));
       const fits = [`${link.name} ${clock.number(link.response ?? 0)}`, clock.number(link.response ?? 0)].find((one) => widthOf(one, 10) + 8 < width);
       if (fits !== undefined) made.append(textAt(x + width / 2, y + 15, fits, "inside middle"));
       x += width;
     }
-    if (!this.isNarrow) made.append(textAt(x + 10, y + 15, clock.span(chain.response), "name"));
-    const sum = links.map((link, index) => `${index === 0 ? "=" : "+"} ${link.name} ${clock.number(link.response ?? 0)}`);
+    const bound = Math.round((this.left + chain.response * pixels) * 10) / 10;
+    made.append(draw("path", { class: "end", d: `M${bound} ${y - 4}v${BAR + 8}` }, `bound of the chain ${clock.time(chain.response)}`));
+    if (!this.isNarrow) made.append(textAt(Math.max(x, bound) + 10, y + 15, clock.span(chain.response), "name"));
+    const of = isLowest ? [`= response of ${lowest.name},`, "its thread of lowest priority;"] : ["≠ response of its thread of lowest priority;"];
+    const sum = links.map((link, index) => `${index === 0 ? "sum" : "+"} ${link.name} ${clock.number(link.response ?? 0)}`);
     const jitter = chain.jitter > 0 ? [`; the first is released up to ${clock.number(chain.jitter)} late`] : [];
-    const lines = this.linesOf([clock.number(chain.response), ...sum, ...jitter]);
-    lines.forEach((line, index) => made.append(textAt(this.left, y + BAR + 14 + LINE * index, line, "small")));
+    const lines = this.linesOf([clock.number(chain.response), ...of, ...sum, `= ${clock.number(whole)}`, ...jitter]);
+    lines.forEach((line, index) => made.append(textAt(this.left, y + BAR + 14 + LINE * index, line, isLowest ? "small" : "small bad")));
     rows.push(made);
     return y + ROW - 4 + LINE * lines.length;
   }

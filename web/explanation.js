@@ -91,7 +91,18 @@ export function utilisationOf(threads) {
   return `${(Math.ceil(part * 10000 - 1e-9) / 100).toFixed(2)} %`;
 }
 
-/** The threads of a chain, the first one first: each with its response, which add up to that of the chain where all are known. */
+/** The threads of a chain, the first one first: each with its response. */
 export function chainLinks(chain, threads) {
   return [...chain.by].reverse().concat(chain.name).map((name) => threads.find((one) => one.name === name)).filter((one) => one !== undefined);
+}
+
+/**
+ * The bounds of a chain: the thread of lowest priority, whose response bounds it, and the sum of all responses, which is a looser bound; and whether
+ * the line of the chain tells the former.
+ */
+export function chainBounds(chain, threads) {
+  const links = chainLinks(chain, threads);
+  const lowest = links.reduce((one, other) => (other.priority < one.priority ? other : one), links[0]);
+  const sum = links.reduce((whole, { response }) => whole + (response ?? 0), 0);
+  return { links, lowest, sum, isLowest: lowest !== undefined && lowest.response === chain.response };
 }

@@ -380,8 +380,9 @@ delayed b by a window 12 activations 2 ticks 6
 late b deadline 3 separation 0
 beyond c priority 1 period 40 deadline 12 cost 6 blocking 0 value 190 limit 12 round 4
 behind d priority 1 period 40 deadline 12 cost 2 blocking 0 by c
-chain b jitter 0 response 16 by a
+chain b jitter 0 response 12 by a
 ceiling q 3
+utilisation 700
 `;
 
 test("the lines of explain are read with all their parts", () => {
@@ -392,7 +393,7 @@ test("the lines of explain are read with all their parts", () => {
   assert.deepEqual([b.started, b.delayed, b.late], [{ by: "a", jitter: 0, response: 4 }, [{ by: "a", window: 12, activations: 2, ticks: 6 }],
     { deadline: 3, separation: 0 }]);
   assert.deepEqual([c.beyond, c.response, d.behind, d.cost], [{ value: 190, limit: 12, round: 4 }, null, "c", 2]);
-  assert.deepEqual(chains, [{ name: "b", jitter: 0, response: 16, by: ["a"] }]);
+  assert.deepEqual(chains, [{ name: "b", jitter: 0, response: 12, by: ["a"] }]);
   assert.deepEqual(ceilings, [{ name: "q", ceiling: 3 }]);
   assert.deepEqual([slackOf(b), spareOf(b), slackOf(c), spareOf(a)], [-3, 13, null, 6]);
   assert.equal(utilisationOf([a]), "30.00 %");
@@ -451,12 +452,14 @@ test("a thread that is late goes on past its deadline, and one that is given up 
   assert.ok(titlesOf(text).includes("a: blocking by b inside q.set: 1 of 4 ticks"));
 });
 
-test("a chain is a bar of the responses of its threads, behind one another", () => {
+test("a chain is a bar of the responses of its threads, behind one another, with a stroke at its bound", () => {
   const text = new Bars(readExplanation(LATE), 1000).draw().write();
   const row = text.split('data-chain="b"')[1];
   const parts = [...row.matchAll(/class="part own [^"]*" x="([\d.]+)" y="[\d.]+" width="([\d.]+)"/g)].slice(0, 2).map((found) => found.slice(1).map(Number));
   assert.deepEqual(parts, [[170, 170], [340, 510]]);
-  assert.ok(row.includes("16 = a 4 + b 12"));
+  assert.ok(row.includes('class="end" d="M680 '));
+  assert.ok(row.includes("12 = response of b, its thread of lowest priority; sum a 4 + b 12 = 16"));
+  assert.ok(new Bars(readExplanation(LATE.replace("response 12 by", "response 13 by")), 1000).draw().write().includes("13 ≠ response of"));
 });
 
 test("bars in milliseconds", () => {

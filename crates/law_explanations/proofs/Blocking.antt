@@ -1,4 +1,4 @@
--- That what is told to block a thread is the longest section that keeps it waiting.
+-- That what is reported to block a thread is the longest section that keeps it waiting.
 use Rattle.std.proofs.Common.{◌≡◌, ℕ, zero, suc, ◌+◌, ◌-◌, ◌≤◌, ◌<◌, Bool, true, false, List, [], ◌∷◌, length, map, zip, Option, Some, None}
 use Rattle.std.proofs.Common.{refl, sym, ap, subst, ◌∙◌, arith}
 use Rattle.std.specs.Prelude.{filter, nat_le, nat_lt, option_and_then, option_map, slice_get, if◌then◌else◌}

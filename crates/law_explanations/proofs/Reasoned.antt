@@ -1,4 +1,4 @@
--- What is told of the thread at a place of the table: it has the priority of that place, with its row, and the cause of its blocking.
+-- What is reported of the thread at a place of the table: it has the priority of that place, with its row, and the cause of its blocking.
 use Rattle.std.proofs.Common.{◌≡◌, ℕ, zero, suc, ◌+◌, ◌-◌, ◌<◌, List, [], ◌∷◌, length, map, zip, Option, Some, refl, sym, ap, ◌∙◌, arith}
 use Rattle.std.specs.Prelude.{filter_map, option_and_then, slice_get}
 use Rattle.std.proofs.lemmas.Option.{same_Some, slice_get_within}
@@ -60,7 +60,7 @@ module _ (f : Flat) where
       let made : row_at f ps k ≡ Some (row_of f ps u (n - i)) = rw (is, there.1) refl in
       all-made-at (row_at f ps) (table f).places row-there i k (row_of f ps u (n - i)) at made
 
--- what is told of a thread of a flat design
+-- what is reported of a thread of a flat design
 pub record IsReason (first : ℕ) (f : Flat) (found : List Reach) (i : ℕ) (t : Reasons) : Type 0 where
   pub inside : i < length f.threads
   pub place : ℕ

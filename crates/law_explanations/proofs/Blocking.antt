@@ -32,8 +32,8 @@ use Rattle.law_explanations.proofs.Terms.{found-told}
 -- an item of two lists is one of each
 both-at : {A B : Type 0} (xs : List A) (ys : List B) (k : ℕ) (x : A) (y : B) → slice_get (zip xs ys) k ≡ Some (x, y)
     → (slice_get xs k ≡ Some x) × (slice_get ys k ≡ Some y)
-both-at [] ys k x y e = cc
-both-at (z ∷ xs) [] k x y e = cc
+both-at {A} {B} [] ys k x y e = (let q : A × B = (x, y) in absurd (none-some q e))
+both-at {A} {B} (z ∷ xs) [] k x y e = (let q : A × B = (x, y) in absurd (none-some q e))
 both-at {A} {B} (z ∷ xs) (w ∷ ys) zero x y e =
     let p : A × B = (z, w) in
     let q : A × B = (x, y) in

@@ -1,7 +1,7 @@
 -- What is reported of the thread at a place of the table: it has the priority of that place, with its row, and the cause of its blocking.
 use Rattle.std.proofs.Common.{◌≡◌, ℕ, zero, suc, ◌+◌, ◌-◌, ◌<◌, List, [], ◌∷◌, length, map, zip, Option, Some, refl, sym, ap, ◌∙◌, arith}
 use Rattle.std.specs.Prelude.{filter_map, option_and_then, slice_get}
-use Rattle.std.proofs.lemmas.Option.{same_Some, slice_get_within}
+use Rattle.std.proofs.lemmas.Option.{none-some, same_Some, slice_get_within}
 use Rattle.seq_tree.specs.Lists.{Each}
 use Rattle.ods_tree.specs.Flats.{Flat, Thread}
 use Rattle.rt_response.specs.declared.rows.ThreadRow.{ThreadRow}
@@ -26,14 +26,8 @@ down-at (suc n) (suc i) h = let z : n - i ≡ suc n - suc i = omega arith in dow
 
 -- an item of two lists is one of both
 zipped-with : {A B : Type 0} (xs : List A) (ys : List B) (i : ℕ) (z : A × B) → slice_get (zip xs ys) i ≡ Some z → slice_get xs i ≡ Some z.0
-zipped-with [] ys i z e = absurd (by z e)
-  where
-    by : {C : Type 0} (z : C) → slice_get [] i ≡ Some z → ⊥
-    by z e = cc
-zipped-with (x ∷ xs) [] i z e = absurd (by z e)
-  where
-    by : {C : Type 0} (z : C) → slice_get [] i ≡ Some z → ⊥
-    by z e = cc
+zipped-with [] ys i z e = absurd (none-some z e)
+zipped-with (x ∷ xs) [] i z e = absurd (none-some z e)
 zipped-with {A} {B} (x ∷ xs) (y ∷ ys) zero z e =
     let p : A × B = (x, y) in
     ap (λ w. Some w.0) (same_Some p z e)
@@ -97,7 +91,8 @@ module _ (first : ℕ) (f : Flat) (found : List Reach) (long : length found ≡ 
       let as_rows = told-rows first f found long in
       let row_at : slice_get (table f).rows i ≡ Some t.row = ap (λ l. slice_get l i) (sym as_rows) ∙ map-at (λ (x : Reasons). x.row) _ i t at in
       let within = slice_get_within (table f).rows i t.row row_at in
-      let inside : i < length f.threads = omega (arith, within, rows-long f, order-count f) in
+      let count : length (table f).rows ≡ length f.threads = rows-long f ∙ order-count f in
+      let inside : i < length f.threads = omega (arith, within, count) in
       let level : ℕ = length f.threads - i in
       let order = order-at f i inside in
       let u = has-at f.threads order.0 (all-at (λ p. p < length f.threads) (table f).places i order.0 (places-stand f) order.1) in

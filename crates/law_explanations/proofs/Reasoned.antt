@@ -1,6 +1,6 @@
 -- What is reported of the thread at a place of the table: it has the priority of that place, with its row, and the cause of its blocking.
 use Rattle.std.proofs.Common.{◌≡◌, ℕ, zero, suc, ◌+◌, ◌-◌, ◌<◌, List, [], ◌∷◌, length, map, zip, Option, Some, refl, sym, ap, ◌∙◌, arith}
-use Rattle.std.specs.Prelude.{filter_map, option_and_then, slice_get}
+use Rattle.std.specs.Prelude.{filter_map, option_and_then, option_map, slice_get}
 use Rattle.std.proofs.lemmas.Option.{none-some, same_Some, slice_get_within}
 use Rattle.seq_tree.specs.Lists.{Each}
 use Rattle.ods_tree.specs.Flats.{Flat, Thread}
@@ -80,11 +80,14 @@ module _ (first : ℕ) (f : Flat) (found : List Reach) (long : length found ≡ 
     blocker = option_and_then (blocker_of f) k.1.1.1.0;
   }
 
+  reason-made : (k : Known) (u : Thread) → slice_get f.threads k.0 ≡ Some u → reasons_at f k ≡ Some (told k u)
+  reason-made k u e = ap (option_map (told k)) e
+
   told-there : (j : ℕ) (k : Known) → slice_get ks j ≡ Some k → (t : Reasons) × (reasons_at f k ≡ Some t)
   told-there j k at =
       let place = zipped-with (table f).places _ j k at in
       let u = has-at f.threads k.0 (all-at (λ p. p < length f.threads) (table f).places j k.0 (places-stand f) place) in
-      (told k u.0, rw u.1 refl)
+      (told k u.0, reason-made k u.0 u.1)
 
   pub reason-is : (i : ℕ) (t : Reasons) → slice_get (reasons_of first f found) i ≡ Some t → IsReason first f found i t
   reason-is i t at =
@@ -105,7 +108,7 @@ module _ (first : ℕ) (f : Flat) (found : List Reach) (long : length found ≡ 
       let known : slice_get ks i ≡ Some k =
       zip-at (table f).places _ i order.0 _ order.1 (zip-at (table f).rows _ i _ _ row (zip-at found _ i r.0 _ r.1
       (zip-at (causes f) (numbered first (downwards (length f.threads))) i _ _ caused written))) in
-      let made : reasons_at f k ≡ Some (told k u.0) = rw u.1 refl in
+      let made : reasons_at f k ≡ Some (told k u.0) = reason-made k u.0 u.1 in
       let same : told k u.0 ≡ t = same_Some (told k u.0) t (sym (all-made-at (reasons_at f) ks told-there i k (told k u.0) known made) ∙ at) in
       record {
         inside = inside;

@@ -291,7 +291,8 @@ class Tables(unittest.TestCase):
                 with open(os.path.join(top, 'docs', name), 'w') as stream:
                     stream.write(content)
             statuses = []
-            for words in ([], ['--write'], [], ['--other']):
+            rows: tuple[list[str], ...] = ([], ['--write'], [], ['--other'])
+            for words in rows:
                 script = [sys.executable, os.path.join(HERE, 'target_table.py')]
                 statuses.append(subprocess.run([*script, *words], capture_output=True, env=dict(os.environ, TARGET_TOP=top)).returncode)
             self.assertEqual(statuses, [1, 0, 0, 2])

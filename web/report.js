@@ -210,7 +210,7 @@ export class Report {
     const more = levels.length > 0 && parents.length > MOST_LEVELS ? `${parents.length - MOST_LEVELS} more objects with children aren't drawn.` : null;
     return sectionOf("diagram", "HOOD diagram",
       fault === undefined ? null : htmlOf("p", {}, `What is refused stands in ${fault.name}, which is marked.`),
-      whole === null ? null : figureOf(whole, `The design ${name}, with all objects inside their parents.`, "whole"),
+      whole === null ? null : figureOf(whole, `The design ${name}, with all objects inside their parents${levels.length > 0 ? "; each parent follows by itself" : ""}.`, "whole"),
       levels.map((focus) => figureOf(new Diagram(this.outline, { ...told, focus, isFlat: true }).draw(), this.wordsOf(focus), "level")),
       more === null ? null : htmlOf("p", { class: "note" }, more));
   }

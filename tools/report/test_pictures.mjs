@@ -424,7 +424,7 @@ test("a response that is no sum of its terms is told", () => {
 
 test("the parts of a bar are as wide as their ticks, up to the deadline, up to the response, or on one scale", () => {
   const told = readExplanation(read("wanted/mine_pump.analyse"));
-  for (const [kind, width] of [["deadline", 1000], ["response", 1000], ["ticks", 1000], ["deadline", 390]]) {
+  for (const [kind, width] of /** @type {[string, number][]} */ ([["deadline", 1000], ["response", 1000], ["ticks", 1000], ["deadline", 390]])) {
     const text = new Bars(told, width, { scale: kind }).draw().write();
     checkMarkup(text);
     const [left, room] = width < 640 ? [8, width - 20] : [170, width - 170 - 150];
@@ -611,7 +611,7 @@ test("bounds side by side: the greatest loss of slack first", () => {
   const { both, gone, come } = changesOfBounds(before, after);
   assert.deepEqual(both.map(({ name, loss }) => [name, loss]), [["c", Infinity], ["b", 30], ["a", -1]]);
   assert.deepEqual([gone.map(({ name }) => name), come.map(({ name }) => name)], [["g"], ["n"]]);
-  const sides = [["old", before], ["new", after]].map(([name, explanation]) => ({ name, text: "", refused: null, explanation }));
+  const sides = [before, after].map((explanation, place) => ({ name: ["old", "new"][place], text: "", refused: null, explanation }));
   const told = markdownOf(sides[0], sides[1], TICKS);
   assert.ok(told.includes("| b | 2 | 5 | 0 | 50 → 40 | 20 → 40 | 30 | 0 | -30 |"), told);
   assert.ok(told.includes("| c | 1 | 5 | 0 | 50 | 30 → none | 20 | none | no response |"), told);

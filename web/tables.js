@@ -22,7 +22,7 @@ export function objectTable({ objects }) {
     one.operations.map(({ name, constraint }) => `${name} ${(constraint ?? "").toUpperCase()}`.trimEnd()).join(", "),
     one.required.map(({ object, operation }) => `${object}.${operation}`).join(", "), linesOfObject(one, null).join(", "),
   ]);
-  return { id: "objects", caption: "Objects, each behind its parent", heads: ["Object", "In", "Kind", "Provides", "Requires", "Times"], rows,
+  return { id: "objects", caption: "Objects", heads: ["Object", "In", "Kind", "Provides", "Requires", "Times"], rows,
     words: [0, 1, 2, 3, 4, 5] };
 }
 
@@ -33,14 +33,14 @@ export function boundTable({ threads }, clock) {
       .map((ticks) => timeIn(ticks, clock)), utilisationOf([one]),
   ]);
   if (threads.length > 1) rows.push(["all", "", "", "", "", "", "", "", "", "", utilisationOf(threads)]);
-  return { id: clock.unit === "ticks" ? "bounds" : "bounds_ms", caption: `Threads, by priority; times in ${clock.unit}`, rows, words: [0],
+  return { id: clock.unit === "ticks" ? "bounds" : "bounds_ms", caption: `Threads by priority; times in ${clock.unit}`, rows, words: [0],
     heads: ["Thread", "Priority", "Period", "Deadline", "Jitter", "Cost", "Blocking", "Response", "Slack", "Before the next release", "Utilisation"] };
 }
 
 /** The bounds of the hard threads of a design with background objects, as far as the head of its Ada text tells them. */
 export function hardTable(threads, clock) {
   const rows = threads.map((one) => [one.name, one.priority, ...[one.deadline, one.jitter, one.response, slackOf(one)].map((ticks) => timeIn(ticks, clock))]);
-  return { id: clock.unit === "ticks" ? "hard" : "hard_ms", caption: `Hard threads, by priority; times in ${clock.unit}`, rows, words: [0],
+  return { id: clock.unit === "ticks" ? "hard" : "hard_ms", caption: `Hard threads by priority; times in ${clock.unit}`, rows, words: [0],
     heads: ["Thread", "Priority", "Deadline", "Jitter", "Response", "Slack"] };
 }
 

@@ -6,7 +6,7 @@
 // First the texts: objects, attributes, operations, calls and costs; then responses and slacks side by side, the greatest loss of slack first, and
 // ceilings. A design that misses its limits is compared too, by what `explain` writes; where the program takes a design not at all, the texts are
 // compared alone. With --milliseconds times are so, by the TICK that both designs have to have. PROGRAM is the path of the program, and the proved
-// program of this repository where it isn't set. Status 0: NEW meets its deadlines; 1: it doesn't; 2: nothing is compared. It claims no proof.
+// program of this repository where it isn't set, or ./hrthood. Status 0: NEW meets its deadlines; 1: it doesn't; 2: nothing is compared. It claims no proof.
 import { basename } from "node:path";
 import { parseArgs } from "node:util";
 import { Clock, TICKS, microsecondsOf } from "../../web/clock.js";

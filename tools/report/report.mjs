@@ -7,7 +7,7 @@
 //
 // It has the verdict, what is proved and what isn't, diagrams, tables, bars, margins, what to change where a limit is missed, and a run under each of the
 // arrivals. Margins of single threads take many runs of the program (margins.py); --brief leaves them out. PROGRAM is the path of the program, and the
-// proved program of this repository where it isn't set. A design that is refused gets a report as well, with what is refused. Status 0: every deadline
+// proved program of this repository where it isn't set, or ./hrthood. A design that is refused gets a report as well, with what is refused. Status 0: every deadline
 // is met, and there is a run under all of the arrivals; 1: the design or some arrivals are refused; 2: there is no report. It claims no proof.
 import { mkdtempSync, readFileSync, rmSync, writeFileSync } from "node:fs";
 import { tmpdir } from "node:os";

@@ -313,7 +313,7 @@ test("the same design gets the same picture", () => {
 test("kinds, constraints, flows, links and times stand in the picture", () => {
   const bounds = readExplanation(read("wanted/mine_pump.analyse"));
   const text = new Diagram(readOutline(read("mine_pump.design")), { bounds }).draw().write();
-  for (const [words, count] of [[">Pr<", 3], [">C<", 4], [">S<", 2], [">A<", 3], [">ASER<", 2], [">PAER<", 5], [">PSER<", 2], [">outside<", 1]]) {
+  for (const [words, count] of /** @type {[string, number][]} */ ([[">Pr<", 3], [">C<", 4], [">S<", 2], [">A<", 3], [">ASER<", 2], [">PAER<", 5], [">PSER<", 2], [">outside<", 1]])) {
     assert.equal(text.split(words).length - 1, count, words);
   }
   for (const words of ["period 80 · deadline 30", "separation 6000 · deadline 200", "arrival jitter 5", "priority 6 · response 23 of 30",
@@ -539,7 +539,7 @@ test("each number of the bounds stands in their table", () => {
 
 test("a design with TICK has its tables and bars in milliseconds too", () => {
   const text = writtenOf(givenOf("flight_control.design", "wanted/flight_control.analyse", { microseconds: 100 }));
-  assert.ok(text.includes("Threads, by priority; times in ticks") && text.includes("Threads, by priority; times in ms"));
+  assert.ok(text.includes("Threads by priority; times in ticks") && text.includes("Threads by priority; times in ms"));
   const { rows } = new Report(givenOf("flight_control.design", "wanted/flight_control.analyse", { microseconds: 100 })).tables().find(({ id }) => id === "bounds_ms");
   const { rows: ticks } = new Report(givenOf("flight_control.design", "wanted/flight_control.analyse")).tables().find(({ id }) => id === "bounds");
   rows.slice(0, -1).forEach((row, place) => assert.equal(Number(row[7]) * 10, Number(ticks[place][7])));

@@ -1,7 +1,7 @@
 // What the commands of pictures and reports share: words, files, the clock and the program.
 import { spawnSync } from "node:child_process";
 import { createHash } from "node:crypto";
-import { existsSync, readFileSync } from "node:fs";
+import { existsSync, readFileSync, readSync } from "node:fs";
 import { dirname, join, resolve } from "node:path";
 import { env } from "node:process";
 import { fileURLToPath } from "node:url";
@@ -13,9 +13,27 @@ export const TOP = dirname(dirname(dirname(fileURLToPath(import.meta.url))));
 /** What is wrong with words or inputs, in one line. */
 export class Unusable extends Error {}
 
+/** The bytes of standard input, which may be a pipe that has none yet. */
+function bytesIn() {
+  const pieces = [];
+  const room = Buffer.alloc(1 << 16);
+  for (;;) {
+    let count = 0;
+    try {
+      count = readSync(0, room);
+    } catch (fault) {
+      if (/** @type {any} */ (fault).code !== "EAGAIN") throw fault;
+      Atomics.wait(new Int32Array(new SharedArrayBuffer(4)), 0, 0, 10); // milliseconds
+      continue;
+    }
+    if (count === 0) return Buffer.concat(pieces);
+    pieces.push(Buffer.from(room.subarray(0, count)));
+  }
+}
+
 /** The characters of a file, or of standard input. */
 export function textOf(/** @type {string} */ path) {
-  return readFileSync(path === "-" ? 0 : path, "utf8");
+  return path === "-" ? bytesIn().toString("utf8") : readFileSync(path, "utf8");
 }
 
 /** The number that an option has, at least so much. */
@@ -77,9 +95,10 @@ export class Program {
   }
 }
 
-/** The program of PROGRAM, or the proved one of this repository. */
+/** The program of PROGRAM, or the proved one of this repository, or where that isn't built the one that `./hrthood` runs by node. */
 export function programOf() {
-  return new Program(resolve(env.PROGRAM ?? join(TOP, "crates", "hrthood", "out", "hrthood")));
+  const proved = join(TOP, "crates", "hrthood", "out", "hrthood");
+  return new Program(resolve(env.PROGRAM ?? (existsSync(proved) ? proved : join(TOP, "hrthood"))));
 }
 
 /** Runs a command, whose status is what it returns, or 2 with one line of what is wrong. */

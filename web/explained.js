@@ -25,7 +25,7 @@ function explainedTable(explanation, clock) {
   const rows = explanation.threads.map((one) => [one.name, one.priority,
     ...[one.period, one.deadline, one.jitter, one.cost, one.blocking, one.response, slackOf(one), spareOf(one)]
       .map((ticks) => (ticks === null ? "-" : clock.number(ticks)))]);
-  const table = tableOf(`Threads, by priority; times in ${clock.unit}. ${SPARE}`, SPARE_HEADS, rows);
+  const table = tableOf(`Threads, by priority; times in ${clock.unit}`, SPARE_HEADS, rows);
   explanation.threads.forEach((thread, place) => table.tBodies[0].rows[place].classList.toggle("late", isLate(thread)));
   return table;
 }
@@ -78,7 +78,7 @@ function explainedBars(explanation, clock, room) {
 /** All that is told of an explanation. */
 function explainedParts(explanation, clock, room) {
   if (explanation.threads.length === 0) return [make("p", { class: "note" }, "The design has no thread, so nothing is bounded.")];
-  const sums = make("p", { class: "sums" }, `Costs by periods come to ${utilisationOf(explanation.threads)} of the processor.`);
+  const sums = make("p", { class: "sums" }, `${SPARE} Costs by periods come to ${utilisationOf(explanation.threads)} of the processor.`);
   return [explainedTable(explanation, clock), sums, ...explainedBars(explanation, clock, room), ...explainedChains(explanation, clock),
     make("details", {}, make("summary", {}, "The bars as text"), explainedList(explanation, clock))];
 }

@@ -16,7 +16,9 @@ const sorted = (names) => [...new Set(names)].sort();
 async function tryDrawn(page) {
   await click(page, "tab-diagram");
   let count = 0;
-  for (const design of designs) {
+  // All of examples/, and of what is refused each fourth.
+  const drawn = designs.filter((design, place) => !design.includes("/") || place % 4 === 0);
+  for (const design of drawn) {
     const text = read(design);
     await set(page, { design: text, arrivals: read("until_20.arrivals") });
     const names = sorted(readOutline(text).objects.map((one) => one.name));

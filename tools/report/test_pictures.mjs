@@ -622,7 +622,7 @@ test("bounds side by side: the greatest loss of slack first", () => {
 
 // ---- The commands ----
 
-const tool = (name, words, { input = "", ...more } = {}) => spawnSync(process.execPath, [join(TOP, "tools", "report", name), ...words],
+const tool = (name, words, { input = "", ...more } = /** @type {any} */ ({})) => spawnSync(process.execPath, [join(TOP, "tools", "report", name), ...words],
   { encoding: "utf8", input, maxBuffer: 1 << 28, env: { ...env, ...more } });
 
 test("the commands write pictures, and tell in one line what is wrong", () => {
@@ -635,10 +635,10 @@ test("the commands write pictures, and tell in one line what is wrong", () => {
   assert.equal(tool("bars.mjs", [], { input: TWO }).status, 0);
   const wrong = tool("bars.mjs", [], { input: TWO.replace("response 8", "response 9") });
   assert.deepEqual([wrong.status, wrong.stderr.includes("response of b:")], [1, true]);
-  for (const [name, words, wanted] of [["diagram.mjs", ["--of", "none", mine], "no object none"], ["diagram.mjs", [], "give it one design"],
+  for (const [name, words, wanted] of /** @type {[string, string[], string][]} */ ([["diagram.mjs", ["--of", "none", mine], "no object none"], ["diagram.mjs", [], "give it one design"],
     ["diagram.mjs", ["none.design"], "none.design"], ["bars.mjs", ["--scale", "x"], "--scale is"], ["bars.mjs", [], "no line of a thread"],
     ["bars.mjs", ["--milliseconds", mine], "has no TICK"], ["report.mjs", [], "give it a design"], ["report.mjs", ["--csv", "--latex", mine], "not as both"],
-    ["report.mjs", ["none.design"], "none.design"], ["diff.mjs", [mine], "give it two designs"], ["diff.mjs", ["--x", mine, mine], "--x"]]) {
+    ["report.mjs", ["none.design"], "none.design"], ["diff.mjs", [mine], "give it two designs"], ["diff.mjs", ["--x", mine, mine], "--x"]])) {
     const answer = tool(name, words, { PROGRAM: process.execPath, input: words.length > 0 ? TWO : "" });
     assert.deepEqual([answer.status, answer.stdout, answer.stderr.split("\n").length], [2, "", 2], `${name} ${words}: ${answer.stderr}`);
     assert.ok(answer.stderr.startsWith(`${name.replace(".mjs", "")}: `) && answer.stderr.includes(wanted), answer.stderr);

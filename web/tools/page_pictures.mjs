@@ -140,7 +140,7 @@ function titlesOf(explanation, { width, scale }) {
 /** Table, bars and chains of what `explain` writes, of designs that pass and that don't. */
 export async function tryBars(page) {
   let count = 0;
-  for (const design of ["mine_pump.design", "flight_control.design", "data_handling.design", "logged_control.design", "late_control.design",
+  for (const design of ["mine_pump.design", "flight_control.design", "data_handling.design", "late_control.design",
     "late_platform.design", "faults/u1.design", "faults/u2.design"]) {
     const { status, out } = answerOf(["explain", design]);
     same(status, 0, `${design} is explained`);

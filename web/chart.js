@@ -247,13 +247,18 @@ export class Chart extends Frame {
     if (words !== "" && width > 6.4 * words.length + 4) this.canvas.text(x + width / 2, base - height / 2 + 3.5, words, "inside middle");
   }
 
+  /** A line of the trace, with its time as the clock tells it. */
+  told({ time, line }) {
+    return `${this.clock.time(time)}${line.slice(line.indexOf(" "))}`;
+  }
+
   /** A line from the task to the lane of the one that it requests. */
   drawRequests() {
     for (const event of this.run.events) {
       if (event.kind !== "request" || !this.isHere(event.time)) continue;
       const [x, here, there] = [this.x(event.time), this.base.get(event.task), this.base.get(event.object)];
-      this.canvas.path("request", there > here ? `M${x} ${here}V${there - 34}` : `M${x} ${here - 23}V${there + 2}`, event.line);
-      this.canvas.add("circle", { class: "request-head", cx: x, cy: here - 23, r: 2.4 }, event.line);
+      this.canvas.path("request", there > here ? `M${x} ${here}V${there - 34}` : `M${x} ${here - 23}V${there + 2}`, this.told(event));
+      this.canvas.add("circle", { class: "request-head", cx: x, cy: here - 23, r: 2.4 }, this.told(event));
     }
   }
 
@@ -292,7 +297,7 @@ export class Chart extends Frame {
     for (const event of this.run.events) {
       if (event.kind !== "put" || !this.isHere(event.time)) continue;
       const [x, y, value] = [this.x(event.time), this.base.get(event.task) - 38, String(event.values[0])];
-      this.canvas.diamond(x, y, event.line);
+      this.canvas.diamond(x, y, this.told(event));
       if (x - (written.get(event.task) ?? -99) <= 7 * value.length + 10) continue;
       this.canvas.text(x + 6, y + 8, value, "small");
       written.set(event.task, x);

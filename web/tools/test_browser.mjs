@@ -422,7 +422,7 @@ const CONTRAST = `(() => {
   for (const element of document.querySelectorAll("body *")) {
     const hasText = [...element.childNodes].some((node) => node.nodeType === 3 && node.textContent.trim() !== "");
     const isSvg = element instanceof SVGElement;
-    if (!hasText || element.closest(".marks, script, style, [hidden], defs, title") || element.getClientRects().length === 0) continue;
+    if (!hasText || element.closest(".marks, .alarm-sign, script, style, [hidden], defs, title") || element.getClientRects().length === 0) continue;
     const style = getComputedStyle(element);
     // Words inside a box have an edge of their own.
     const behind = isSvg && element.matches(".inside") ? [34, 34, 34] : ground(element);

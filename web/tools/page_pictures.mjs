@@ -58,7 +58,7 @@ async function tryMouse(page) {
       await page.page("Input.dispatchMouseEvent", { type, x, y, button: "left", buttons: type === "mousePressed" ? 1 : 0, clickCount: 1 });
     }
     const text = await selected(page);
-    judge(text.startsWith(`OBJECT ${name} IS`) && /END \w+;?$/.test(text.trimEnd()), `the text of ${name} is selected: ${text.slice(0, 60)}`);
+    judge(text.startsWith(`OBJECT ${name} IS`) && new RegExp(`END ${name};?$`).test(text.trimEnd()), `the text of ${name} is selected: ${text.slice(0, 60)}`);
     const facts = await page.evaluate(`document.querySelector("#panel-diagram .facts").textContent`);
     judge(facts.includes(`Response${response} =`) && facts.includes(`slack ${deadline - response} tick`) && facts.includes(`Priority${priority}`),
       `what is told of ${name}: ${facts}`);

@@ -1,10 +1,11 @@
 #!/usr/bin/env node
 // Tries the page in a headless Chromium: each verb over the examples as the program answers, byte for byte, and what the page shows of it.
 //
-//     PROGRAM=./hrthood web/tools/test_browser.mjs [--pictures FOLDER] [PAGE.html]
+//     PROGRAM=./hrthood web/tools/test_browser.mjs [--pictures FOLDER] [--only STEP,STEP..] [PAGE.html]
 //
 // PAGE.html is out/page/lafomizana.html where it isn't named, and CHROMIUM the path of a browser. Exit status 0 tells that all went as wanted, 1
-// that something did not, and 2 that nothing was tried, as there is no browser, no page or no program. --pictures takes pictures to look at.
+// that something did not, and 2 that nothing was tried, as there is no browser, no page or no program. --pictures takes pictures to look at,
+// and --only does some of the steps, by the names of their functions.
 import { spawnSync } from "node:child_process";
 import { existsSync, mkdtempSync, readFileSync, readdirSync, rmSync, writeFileSync } from "node:fs";
 import { tmpdir } from "node:os";
@@ -19,6 +20,7 @@ import {
 
 const words = process.argv.slice(2);
 const pictures = words[0] === "--pictures" ? words.splice(0, 2)[1] : null;
+const only = words[0] === "--only" ? words.splice(0, 2)[1].split(",") : null;
 const file = resolve(words[0] ?? join(TOP, "out/page/lafomizana.html"));
 
 // ---- What the program answers ----
@@ -543,9 +545,13 @@ try {
   console.log(`${await browser.version()}, ${basename(file)}`);
   const page = await browser.open(pathToFileURL(file).href);
   await page.until("document.querySelector('#verdict.good')", 120);
-  const steps = { tryVerbs, tryCodes, tryMarks, tryTyping, tryFormat, tryBegin, tryPrinted, tryVerbTabs, tryBackground, tryTraces, tryTimeline, tryWindow, tryDiagram, tryBars,
-    tryLate, tryUnits, tryLarge, tryMemory, tryStop, tryKeyboard, tryColours, tryNarrow };
-  for (const [name, step] of Object.entries(steps)) await step(page).catch((fault) => judge(false, `${name}: ${fault.message}`));
+  const steps = { tryVerbs, tryCodes, tryMarks, tryTyping, tryFormat, tryBegin, tryPrinted, tryVerbTabs, tryBackground, tryTraces, tryTimeline, tryWindow,
+    tryDiagram, tryBars, tryLate, tryUnits, tryLarge, tryMemory, tryStop, tryKeyboard, tryColours, tryNarrow };
+  const unknown = (only ?? []).filter((name) => steps[name] === undefined);
+  if (unknown.length > 0) judge(false, `no such step: ${unknown.join(", ")}`);
+  for (const [name, step] of Object.entries(steps)) {
+    if (only === null || only.includes(name)) await step(page).catch((fault) => judge(false, `${name}: ${fault.message}`));
+  }
   await trySaves(browser, page);
   await tryQuiet(page);
   if (pictures !== null) await takePictures(page);

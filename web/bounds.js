@@ -1,20 +1,5 @@
-// The numbers of `analyse`, and what is reckoned of them.
+// The numbers of `analyse` as tables, and what is reckoned of them.
 "use strict";
-
-/** The threads, each with its numbers, and the ceilings, of the lines that `analyse` writes. */
-function readBounds(text) {
-  const [threads, ceilings] = [[], []];
-  for (const line of text.split("\n")) {
-    const words = line.split(" ");
-    if (words[0] === "ceiling") ceilings.push({ name: words[1], ceiling: Number(words[2]) });
-    else if (words[0] === "thread") {
-      const thread = { name: words[1] };
-      for (let index = 2; index < words.length; index += 2) thread[words[index]] = Number(words[index + 1]);
-      threads.push(thread);
-    }
-  }
-  return { threads, ceilings };
-}
 
 /** How long a tick is, where the design tells it. */
 function tickOf(design) {
@@ -22,20 +7,15 @@ function tickOf(design) {
   return tick === null ? null : `${tick[1]} ${tick[2]}`;
 }
 
-/** Of what a response is made: cost, blocking, and what each thread of greater priority takes. Empty where that is not its sum. */
-function whyOf(thread, threads) {
-  const above = threads.filter((other) => other.priority > thread.priority);
-  const parts = above.map((other) => ({ other, times: Math.ceil((thread.response + other.jitter) / other.period) }));
-  const sum = parts.reduce((whole, { other, times }) => whole + times * other.cost, thread.cost + thread.blocking);
-  if (sum !== thread.response) return "";
-  const taken = parts.map(({ other, times }) => `${other.name} ${times} × ${other.cost}`);
-  return [`cost ${thread.cost}`, `blocking ${thread.blocking}`, ...taken].join(" + ");
+/** How times are told, in a sentence. */
+function timesAre(clock, tick) {
+  if (clock.unit === "ms") return `Times are milliseconds; a tick is ${clock.time(1)}.`;
+  return tick === null ? "Times are ticks." : `Times are ticks of ${tick}.`;
 }
 
-/** The part of the processor that the threads take at most, as a percentage rounded up. */
-function utilisationOf(threads) {
-  const part = threads.reduce((whole, { cost, period }) => whole + cost / period, 0);
-  return `${(Math.ceil(part * 10000 - 1e-9) / 100).toFixed(2)} %`;
+/** Of what a response is made: cost, blocking, and what each thread of greater priority takes. Empty where that is not its sum. */
+function whyOf(thread, threads, clock) {
+  return partsOf(thread, threads).isSum ? termsOf(thread, threads, clock).join(" + ") : "";
 }
 
 function cellOf(text, attributes = {}) {
@@ -43,16 +23,16 @@ function cellOf(text, attributes = {}) {
 }
 
 /** A bar of the cost, where it is known, and the response within the deadline. */
-function barOf({ name, cost = undefined, response, deadline }) {
+function barOf({ name, cost = undefined, response, deadline }, clock) {
   const width = 120;
-  const told = `${cost === undefined ? "" : `cost ${cost} and `}response ${response} of deadline ${deadline}`;
-  const picture = draw("svg", { class: "meter", width, height: 14, role: "img", "aria-label": `${name}: ${told}` }, told);
+  const told = `${cost === undefined ? "" : `cost ${clock.number(cost)} and `}response ${clock.number(response)} of deadline ${clock.time(deadline)}`;
   const part = (kind, ticks) =>
     draw("rect", { class: kind, x: 0, y: 2, width: Math.max(1, width * Math.min(1, ticks / deadline)), height: 10, rx: 2 });
+  const picture = draw("svg", { class: "meter", width, height: 14, role: "img", "aria-label": `${name}: ${told}` }, told);
   picture.append(draw("rect", { class: "deadline", x: 0, y: 2, width, height: 10, rx: 2 }), part("response", response));
   if (cost !== undefined) picture.append(part("cost", cost));
   const cell = make("td", { class: "fill" });
-  cell.append(picture);
+  cell.innerHTML = picture.write();
   return cell;
 }
 
@@ -81,23 +61,24 @@ function glossary(response) {
 }
 
 /** Of what each response is made, where it is the sum of that. */
-function whyList(threads) {
-  const items = threads.map((one) => [one, whyOf(one, threads)]).filter(([, why]) => why !== "");
+function whyList(threads, clock) {
+  const items = threads.map((one) => [one, whyOf(one, threads, clock)]).filter(([, why]) => why !== "");
   return make("ul", { class: "why", "aria-label": "Of what each response is made" },
-    ...items.map(([one, why]) => make("li", {}, make("b", {}, `${one.name} ${one.response}`), ` = ${why}`)));
+    ...items.map(([one, why]) => make("li", {}, make("b", {}, `${one.name} ${clock.number(one.response)}`), ` = ${why}`)));
 }
 
 function ceilingTable(ceilings) {
   return ceilings.length === 0 ? [] : [tableOf("Ceilings", ["Object", "Ceiling"], ceilings.map((one) => [one.name, one.ceiling]))];
 }
 
-function boundsTables({ threads, ceilings }, tick, response = PROVED) {
+function boundsTables({ threads, ceilings }, tick, clock, response = PROVED) {
   if (threads.length === 0) return [make("p", { class: "note" }, "The design has no thread, so nothing is bounded."), ...ceilingTable(ceilings)];
   const least = threads.reduce((found, one) => (one.deadline - one.response < found.deadline - found.response ? one : found));
-  const ticks = tick === null ? "Times are ticks." : `Times are ticks of ${tick}.`;
-  const rows = threads.map((one) => [one.name, one.priority, one.period, one.deadline, one.jitter, one.cost, one.blocking, one.response,
-    one.deadline - one.response, barOf(one)]);
-  const slack = `The least slack is ${least.deadline - least.response} ticks, of ${least.name}.`;
+  const rows = threads.map((one) => [one.name, one.priority,
+    ...[one.period, one.deadline, one.jitter, one.cost, one.blocking, one.response, one.deadline - one.response].map((ticks) => clock.number(ticks)),
+    barOf(one, clock)]);
+  const slack = `The least slack is ${clock.span(least.deadline - least.response)}, of ${least.name}.`;
   const sums = make("p", { class: "sums" }, `${slack} Costs by periods come to ${utilisationOf(threads)} of the processor.`);
-  return [tableOf(`Threads, by priority. ${ticks}`, HEADS, rows), sums, whyList(threads), ...ceilingTable(ceilings), glossary(response)];
+  return [tableOf(`Threads, by priority. ${timesAre(clock, tick)}`, HEADS, rows), sums, whyList(threads, clock), ...ceilingTable(ceilings),
+    glossary(response)];
 }

@@ -1,34 +1,11 @@
-// Draws a run: tools/report/chart.py in JavaScript, for one window, with the page's colours. What is drawn is told by traces.js.
-"use strict";
+// Draws a run as SVG, in a window of its time. Who runs is told by traces.js.
+import { TICKS } from "./clock.js";
+import { draw, short, textAt } from "./markup.js";
 
-const SVG = "http://www.w3.org/2000/svg";
 const COLOURS = 12; // of objects, as in chart.css
 
-/** An element of a picture, with a title for the mouse if there is one. */
-function draw(name, attributes, title) {
-  const made = document.createElementNS(SVG, name);
-  for (const [key, value] of Object.entries(attributes)) made.setAttribute(key, typeof value === "number" ? Math.round(value * 10) / 10 : value);
-  if (title !== undefined) {
-    const told = document.createElementNS(SVG, "title");
-    told.textContent = title;
-    made.append(told);
-  }
-  return made;
-}
-
-/** The first of 1, 2, 5, 10, 20, .. that is at least so much. */
-function gridStep(least) {
-  for (let power = 1; ; power *= 10) {
-    for (const factor of [1, 2, 5]) if (factor * power >= least) return factor * power;
-  }
-}
-
-function short(name, most) {
-  return name.length <= most ? name : `${name.slice(0, most - 2)}..`;
-}
-
 /** The tasks, and the objects of a program, each from the greatest priority or ceiling down; of equal ones in the order of the text. */
-function tasksByPriority(program) {
+export function tasksByPriority(program) {
   return [...program.tasks.values()].sort((one, other) => other.priority - one.priority);
 }
 
@@ -36,41 +13,40 @@ function objectsByCeiling(program) {
   return [...program.ceilings.keys()].sort((one, other) => program.ceilings.get(other) - program.ceilings.get(one));
 }
 
+/** A stripe of a pattern on its ground, if it has one. */
+function stripes(id, step, ground) {
+  const made = draw("pattern", { id, width: step, height: step, patternUnits: "userSpaceOnUse", patternTransform: "rotate(45)" });
+  if (ground !== null) made.append(draw("rect", { width: step, height: step, class: ground }));
+  return made.append(draw("rect", { width: 2.5, height: step, class: `${id}-stripe` }));
+}
+
 /** A picture of so many pixels. With a name it has the patterns too; without one it is a mark beside a chart, which has them. */
-class Canvas {
-  constructor(width, height, name) {
-    const told = name === null ? { "aria-hidden": "true" } : { role: "img", "aria-label": name };
-    this.root = draw("svg", { width, height, viewBox: `0 0 ${width} ${height}`, class: "timeline", ...told });
-    if (name !== null) {
-      const patterns = draw("defs", {});
-      patterns.append(this.stripes("blocked", 5, "blocked-ground"), this.stripes("doubt", 6, null));
-      this.root.append(patterns);
-    }
-    this.root.append(draw("rect", { class: "paper", width, height }));
+export function pictureOf(width, height, name, ...inside) {
+  const told = name === null ? { "aria-hidden": "true" } : { role: "img", "aria-label": name };
+  const made = draw("svg", { width, height, viewBox: `0 0 ${width} ${height}`, class: "timeline", ...told });
+  if (name !== null) made.append(draw("defs", {}).append(stripes("blocked", 5, "blocked-ground"), stripes("doubt", 6, null)));
+  return made.append(draw("rect", { class: "paper", width, height }), ...inside);
+}
+
+/** The marks of a picture, in the order in which they are drawn. */
+export class Canvas {
+  constructor() {
+    this.marks = [];
   }
 
-  stripes(id, step, ground) {
-    const made = draw("pattern", { id, width: step, height: step, patternUnits: "userSpaceOnUse", patternTransform: "rotate(45)" });
-    if (ground !== null) made.append(draw("rect", { width: step, height: step, class: ground }));
-    made.append(draw("rect", { width: 2.5, height: step, class: `${id}-stripe` }));
-    return made;
+  add(name, attributes, title = undefined) {
+    this.marks.push(draw(name, attributes, title));
   }
 
-  add(name, attributes, title) {
-    this.root.append(draw(name, attributes, title));
+  text(x, y, text, kind = "") {
+    this.marks.push(textAt(x, y, text, kind));
   }
 
-  text(x, y, text, kind) {
-    const made = draw("text", { x, y, class: kind });
-    made.textContent = text;
-    this.root.append(made);
-  }
-
-  box(kind, x, y, width, height, title) {
+  box(kind, x, y, width, height, title = undefined) {
     this.add("rect", { class: kind, x, y, width: Math.max(0.6, width), height }, title);
   }
 
-  path(kind, d, title) {
+  path(kind, d, title = undefined) {
     this.add("path", { class: kind, d }, title);
   }
 
@@ -92,21 +68,25 @@ class Canvas {
 const LANE = 58; // pixels of height
 const OBJECT_LANE = 18;
 const TOP = 22;
-const RIGHT = 22; // pixels beside the lanes
+export const RIGHT = 22; // pixels beside the lanes
 
-function leftOf(width) {
+/** The pixels of names beside the lanes. */
+export function leftOf(width) {
   return width < 640 ? 118 : 196;
 }
 
-/** The lanes of a window, of its tasks and below them of these objects. */
+/**
+ * The lanes of a window, of its tasks and below them of these objects. `scaled` ticks are as wide as the picture, by default those of the window, and
+ * a clock tells times.
+ */
 class Frame {
-  /** @type {any} */
-  canvas; // on which a frame of a kind draws
-
-  constructor(program, start, end, objects, width) {
+  constructor(program, start, end, objects, width, { clock = TICKS, scaled = end - start } = {}) {
     this.program = program;
     this.start = start;
     this.end = end;
+    this.clock = clock;
+    this.canvas = new Canvas();
+    this.width = width;
     this.tasks = tasksByPriority(program);
     this.objects = objects;
     const lanes = TOP + LANE * this.tasks.length + 8;
@@ -114,7 +94,7 @@ class Frame {
     this.objectBase = new Map(objects.map((name, index) => [name, lanes + OBJECT_LANE * (index + 1) - 3]));
     this.bottom = lanes + OBJECT_LANE * objects.length;
     this.left = leftOf(width);
-    this.scale = (width - this.left - RIGHT) / (end - start);
+    this.scale = (width - this.left - RIGHT) / scaled;
   }
 
   x(time) {
@@ -132,10 +112,10 @@ class Frame {
   }
 
   drawGrid() {
-    const step = gridStep(50 / this.scale);
+    const step = this.clock.step(50 / this.scale);
     for (let time = Math.ceil(this.start / step) * step; time <= this.end; time += step) {
       this.canvas.path("grid", `M${this.x(time)} ${TOP}V${this.bottom}`);
-      this.canvas.text(this.x(time), TOP - 5, String(time), "small middle");
+      this.canvas.text(this.x(time), TOP - 5, this.clock.number(time), "small middle");
     }
   }
 
@@ -145,11 +125,11 @@ class Frame {
       const y = this.base.get(task.name);
       this.canvas.path("base", `M${this.left} ${y}H${this.x(this.end)}`);
       this.canvas.text(8, y - 20, short(task.name, most), "name");
-      const span = task.period === null || most < 20 ? "" : `, ${task.isCyclic ? "period" : "separation"} ${task.period}`;
+      const span = task.period === null || most < 20 ? "" : `, ${task.isCyclic ? "period" : "separation"} ${this.clock.time(task.period)}`;
       this.canvas.text(8, y - 7, `priority ${task.priority}${span}`, "small");
       const known = [["deadline", task.deadline], ["bound", task.bound]].filter(([, ticks]) => ticks !== null);
       const limits = most < 20 ? known.slice(-1) : known;
-      this.canvas.text(8, y + 5, limits.map((limit) => limit.join(" ")).join(", "), "small");
+      this.canvas.text(8, y + 5, limits.map(([what, ticks]) => `${what} ${this.clock.time(ticks)}`).join(", "), "small");
     }
     for (const name of this.objects) {
       const y = this.objectBase.get(name);
@@ -160,23 +140,30 @@ class Frame {
   }
 }
 
-/** The picture of a run in its window. */
-class Chart extends Frame {
-  constructor(run, width) {
-    const objects = objectsByCeiling(run.program);
-    const parts = run.parts();
-    const isIn = ({ from, to }) => from < run.end && to > run.start;
-    const used = new Set([...parts.map((part) => part.object), ...run.sections.filter(isIn).map((section) => section.object)]);
-    super(run.program, run.start, run.end, objects.filter((name) => used.has(name)), width);
+/** The objects of a program in which a task is in the window of a run, by ceiling. */
+export function usedObjects(run, parts) {
+  const isIn = ({ from, to }) => from < run.end && to > run.start;
+  const used = new Set([...parts.map((part) => part.object), ...run.sections.filter(isIn).map((section) => section.object)]);
+  return objectsByCeiling(run.program).filter((name) => used.has(name));
+}
+
+/**
+ * The picture of a run in its window, or in the part of it from the tick `from` to `to`; `parts` are those of the run, where they are found already.
+ */
+export class Chart extends Frame {
+  /** @param {any} more */
+  constructor(run, width, more = {}) {
+    const { from = run.start, to = run.end, parts = run.parts(), ...others } = more;
+    super(run.program, from, to, usedObjects(run, parts), width, others);
     this.run = run;
     this.parts = parts;
     this.waits = run.waits();
     // An object has one colour in all windows of a run.
-    this.colours = new Map(objects.map((name, index) => [name, `object-${index % COLOURS}`]));
-    this.canvas = new Canvas(width, this.bottom + 14, `Who runs from tick ${this.start} to ${this.end}; the list below tells the same`);
+    this.colours = new Map(objectsByCeiling(run.program).map((name, index) => [name, `object-${index % COLOURS}`]));
   }
 
-  draw() {
+  /** All marks, without the picture. */
+  drawMarks() {
     this.drawGrid();
     this.drawNames();
     this.drawBounds();
@@ -188,7 +175,12 @@ class Chart extends Frame {
     this.drawEnds();
     this.drawPuts();
     this.drawEndOfTrace();
-    return this.canvas.root;
+    return this.canvas.marks;
+  }
+
+  draw() {
+    const window = `from ${this.clock.unit === "ticks" ? "tick " : ""}${this.clock.number(this.start)} to ${this.clock.time(this.end)}`;
+    return pictureOf(this.width, this.bottom + 14, `Who runs ${window}; the list below tells the same`, ...this.drawMarks());
   }
 
   drawBounds() {
@@ -199,7 +191,7 @@ class Chart extends Frame {
       if (span === null) continue;
       const y = this.base.get(name);
       const isKept = (one.end ?? this.run.trace.last) <= limit;
-      const title = `${name} released at ${one.release}, bound ${limit}`;
+      const title = `${name} released at ${this.clock.time(one.release)}, bound ${this.clock.time(limit)}`;
       this.canvas.box(isKept ? "kept" : "late", span[0], y - 28, span[1], 28, title);
       if (this.isHere(limit)) this.canvas.path(isKept ? "kept-end" : "late-end", `M${this.x(limit)} ${y}v-28`, title);
     }
@@ -209,7 +201,7 @@ class Chart extends Frame {
     for (const { start, end, task, runner, isBlocked } of this.waits) {
       const span = this.span(start, end);
       if (span === null) continue;
-      const title = `${start} to ${end}: ${task} ${isBlocked ? "blocked by" : "waits for"} ${runner}`;
+      const title = `${this.times(start, end)}: ${task} ${isBlocked ? "blocked by" : "waits for"} ${runner}`;
       const height = isBlocked ? 9 : 4;
       this.canvas.box(isBlocked ? "blocked" : "waits", span[0], this.base.get(task) - height, span[1], height, title);
     }
@@ -220,16 +212,21 @@ class Chart extends Frame {
     for (const { object, task, from, to } of this.run.sections) {
       const span = this.span(from, to);
       if (span === null || !this.objectBase.has(object)) continue;
-      const title = `${from} to ${to}: ${task} is inside ${object}`;
+      const title = `${this.times(from, to)}: ${task} is inside ${object}`;
       this.canvas.box(`inside-of ${this.colours.get(object)}`, span[0], this.objectBase.get(object) - 9, span[1], 6, title);
     }
+  }
+
+  /** From when to when, in words. */
+  times(start, end) {
+    return `${this.clock.number(start)} to ${this.clock.time(end)}`;
   }
 
   titleOf({ start, end, task, object, isRequest, rivals }) {
     const ceiling = this.program.ceilings.get(object);
     const where = object === null ? "" : ` ${isRequest ? "storing a request of" : "inside"} ${object} at priority ${ceiling}`;
     const doubt = rivals.length === 0 ? "" : `, or ${rivals.join(" or ")}, if it was storing a request`;
-    return `${start} to ${end}: ${task} runs${where}${doubt}`;
+    return `${this.times(start, end)}: ${task} runs${where}${doubt}`;
   }
 
   drawParts() {
@@ -250,13 +247,18 @@ class Chart extends Frame {
     if (words !== "" && width > 6.4 * words.length + 4) this.canvas.text(x + width / 2, base - height / 2 + 3.5, words, "inside middle");
   }
 
+  /** A line of the trace, with its time as the clock tells it. */
+  told({ time, line }) {
+    return `${this.clock.time(time)}${line.slice(line.indexOf(" "))}`;
+  }
+
   /** A line from the task to the lane of the one that it requests. */
   drawRequests() {
     for (const event of this.run.events) {
       if (event.kind !== "request" || !this.isHere(event.time)) continue;
       const [x, here, there] = [this.x(event.time), this.base.get(event.task), this.base.get(event.object)];
-      this.canvas.path("request", there > here ? `M${x} ${here}V${there - 34}` : `M${x} ${here - 23}V${there + 2}`, event.line);
-      this.canvas.add("circle", { class: "request-head", cx: x, cy: here - 23, r: 2.4 }, event.line);
+      this.canvas.path("request", there > here ? `M${x} ${here}V${there - 34}` : `M${x} ${here - 23}V${there + 2}`, this.told(event));
+      this.canvas.add("circle", { class: "request-head", cx: x, cy: here - 23, r: 2.4 }, this.told(event));
     }
   }
 
@@ -264,11 +266,12 @@ class Chart extends Frame {
     for (const { task, release } of this.run.activations) {
       const due = release + task.deadline;
       if (task.deadline === null || !this.isHere(due)) continue;
-      this.canvas.arrowDown(this.x(due), this.base.get(task.name), `${task.name} released at ${release}, deadline ${due}`);
+      const title = `${task.name} released at ${this.clock.time(release)}, deadline ${this.clock.time(due)}`;
+      this.canvas.arrowDown(this.x(due), this.base.get(task.name), title);
     }
     for (const { task, release, value, isArrival } of this.run.activations) {
       if (!this.isHere(release)) continue;
-      const title = `${release} release ${task.name}${value === null ? "" : ` ${value}`}`;
+      const title = `${this.clock.time(release)} release ${task.name}${value === null ? "" : ` ${value}`}`;
       this.canvas.arrowUp(this.x(release), this.base.get(task.name), title, isArrival);
     }
   }
@@ -278,8 +281,10 @@ class Chart extends Frame {
     for (const one of this.run.activations) {
       if (one.end === null || !this.isHere(one.end)) continue;
       const { name, bound } = one.task;
-      const [x, y, response] = [this.x(one.end), this.base.get(name), String(one.response())];
-      const title = `${one.end} end ${name} used ${one.used}, response ${response}${bound === null ? "" : `, bound ${bound}`}`;
+      const [x, y, response] = [this.x(one.end), this.base.get(name), this.clock.number(one.response())];
+      const { clock } = this;
+      const limit = bound === null ? "" : `, bound ${clock.time(bound)}`;
+      const title = `${clock.time(one.end)} end ${name} used ${clock.time(one.used)}, response ${clock.time(one.response())}${limit}`;
       this.canvas.add("circle", { class: "end", cx: x, cy: y, r: 3 }, title);
       if (x - (written.get(name) ?? -99) <= 7 * response.length + 4) continue;
       this.canvas.text(x, y + 12, response, "small middle");
@@ -292,7 +297,7 @@ class Chart extends Frame {
     for (const event of this.run.events) {
       if (event.kind !== "put" || !this.isHere(event.time)) continue;
       const [x, y, value] = [this.x(event.time), this.base.get(event.task) - 38, String(event.values[0])];
-      this.canvas.diamond(x, y, event.line);
+      this.canvas.diamond(x, y, this.told(event));
       if (x - (written.get(event.task) ?? -99) <= 7 * value.length + 10) continue;
       this.canvas.text(x + 6, y + 8, value, "small");
       written.set(event.task, x);
@@ -305,20 +310,19 @@ class Chart extends Frame {
     if (stop === null || !this.isHere(stop.time)) return;
     const [x, y] = [this.x(stop.time), this.base.get(stop.task)];
     this.canvas.path("stop", `M${x - 7} ${y - 20}l14 14m0 -14l-14 14`, stop.line);
+    const isRight = x > this.width / 2;
     const words = `stop: priority ${stop.values[0]}, ceiling ${stop.values[1]} of ${stop.object}`;
-    this.canvas.text(x + 6, y + 13, words, "small bad");
+    this.canvas.text(isRight ? x : x + 6, y + 13, words, isRight ? "small bad right" : "small bad");
   }
 }
 
 const COLUMN = 2; // pixels
 
 /** The picture of a window with too many events: in each column of each lane the greatest response of what is released there. */
-class Heights extends Frame {
-  constructor(trace, start, end, width) {
-    super(trace.program, start, Math.min(end, Math.max(trace.last, start + 1)), [], width);
+export class Heights extends Frame {
+  constructor(trace, start, end, width, clock = TICKS) {
+    super(trace.program, start, Math.min(end, Math.max(trace.last, start + 1)), [], width, { clock });
     this.trace = trace;
-    const name = `The greatest responses from tick ${this.start} to ${this.end}; the table below tells them of the whole trace`;
-    this.canvas = new Canvas(width, this.bottom + 6, name);
   }
 
   /** Of each task the greatest response in each column, by the column's left edge. */
@@ -338,17 +342,54 @@ class Heights extends Frame {
     this.drawNames();
     const columns = this.columns();
     for (const task of this.tasks) this.drawLane(task, columns.get(task.name));
-    return this.canvas.root;
+    const window = `from ${this.clock.number(this.start)} to ${this.clock.time(this.end)}`;
+    const name = `The greatest responses ${window}; the table below tells them of the whole trace`;
+    return pictureOf(this.width, this.bottom + 6, name, ...this.canvas.marks);
   }
 
   drawLane(task, columns) {
     const base = this.base.get(task.name);
     const full = task.bound ?? Math.max(1, ...columns.values());
-    this.canvas.box("kept", this.left, base - 28, this.x(this.end) - this.left, 28, `the bound of ${task.name}, ${full}`);
+    this.canvas.box("kept", this.left, base - 28, this.x(this.end) - this.left, 28, `the bound of ${task.name}, ${this.clock.time(full)}`);
     for (const [column, response] of columns) {
       const height = Math.min(36, (28 * response) / full);
-      const title = `${task.name}: greatest response ${response} of at most ${full}`;
+      const title = `${task.name}: greatest response ${this.clock.time(response)} of at most ${this.clock.time(full)}`;
       this.canvas.box(response > full ? "late-bar" : "runs", column, base - height, COLUMN, height, title);
     }
   }
 }
+
+// ---- What the marks mean ----
+
+/** Each mark with its words. */
+export const LEGEND = [
+  ["arrow", "release"], ["hollow", "release by a request from outside"], ["deadline", "deadline"], ["kept", "release to bound"], ["runs", "runs"],
+  ["object-0", "runs inside an object, at its ceiling"], ["waits", "ready, preempted"], ["blocked", "ready, blocked by lower priority"],
+  ["end", "end, response time"], ["diamond", "put"], ["request", "request"],
+];
+
+/** The marks of one kind, in a square of MARK pixels. */
+export function marksOf(kind) {
+  const canvas = new Canvas();
+  if (kind === "arrow" || kind === "hollow") {
+    canvas.path("arrow", "M11 21v-14");
+    canvas.path(kind === "hollow" ? "head hollow" : "head", "M11 1l-3.5 7h7z");
+  } else if (kind === "deadline") {
+    canvas.path("deadline", "M11 1v16");
+    canvas.path("deadline-head", "M11 21l-3.5 -7h7z");
+  } else if (kind === "kept") {
+    canvas.box("kept", 1, 2, 20, 18);
+    canvas.path("kept-end", "M21 2v18");
+  } else if (kind === "waits") canvas.box("waits", 1, 14, 20, 4);
+  else if (kind === "blocked") canvas.box("blocked", 1, 9, 20, 9);
+  else if (kind === "end") canvas.add("circle", { class: "end", cx: 11, cy: 11, r: 3.5 });
+  else if (kind === "diamond") canvas.path("diamond", "M11 6l4 5l-4 5l-4-5z");
+  else if (kind === "request") canvas.path("request", "M11 0v22");
+  else if (kind === "doubt") {
+    canvas.box("part runs", 1, 5, 20, 13);
+    canvas.box("doubt", 1, 5, 20, 13);
+  } else canvas.box(`part ${kind}`, 1, kind === "runs" ? 5 : 1, 20, kind === "runs" ? 13 : 18);
+  return canvas.marks;
+}
+
+export const MARK = 22;

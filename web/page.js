@@ -37,6 +37,7 @@ const runs = new Runs(WORKER, MODULE);
 const refusals = new Refusals(REFUSALS);
 const run = (words, texts, most) => runs.run(words, texts, most);
 const timeline = new Timeline(at("panel-timeline"), CHART_STYLE);
+const diagram = new DiagramTab(at("panel-diagram"), DIAGRAM_STYLE, selectObject);
 const editors = {
   design: new Editor(at("design"), later),
   arrivals: new Editor(at("arrivals"), later),
@@ -49,7 +50,8 @@ for (const one of verbTabs) {
 }
 const panels = allOf("[role=tabpanel]");
 const tabs = allOf("[role=tab]");
-const state = { bounds: null, boundsText: "", tick: null, ada: "", trace: null, isOther: true, isBackground: false, mark: null };
+const state = { bounds: null, boundsText: "", tick: null, ada: "", trace: null, isOther: true, isBackground: false, mark: null, late: null,
+  design: "", clock: TICKS };
 
 // ---- Runs of all that is shown ----
 
@@ -69,6 +71,12 @@ function textsNow() {
 function answerPart(panel) {
   return panel.querySelector(".answer") ?? panel;
 }
+
+// Of a refusal that more time or a larger budget would end, and of one of a budget.
+const OVER = /^refused (U1|U2|V14) /;
+const BUDGET = /^refused V14 /;
+/** @type {{ background?: any, replayed?: any }} */
+const NO_ANSWERS = {};
 
 /** Runs all again soon, when the texts have not changed for a moment. */
 function later() {
@@ -129,11 +137,41 @@ async function backgroundAnswersOf({ design, arrivals }) {
   return { background, replayed: await run(["replay", "program", "arrivals"], { program: background.out, arrivals }) };
 }
 
+/** An Ada text of a design and its trace, by `verify`, or with background objects by `background` and `replay`; or the line of what is refused. */
+async function runOf({ design, arrivals }) {
+  const verified = await run(["verify", "design", "arrivals"], { design, arrivals });
+  if (verified.status === 0) {
+    const cut = verified.out.indexOf("\n-- trace\n");
+    return { ada: verified.out.slice(0, cut + 1), trace: verified.out.slice(cut + "\n-- trace\n".length), refused: null };
+  }
+  const { background, replayed } = backgroundOf(design).length > 0 ? await backgroundAnswersOf({ design, arrivals }) : NO_ANSWERS;
+  if (replayed?.status === 0) return { ada: background.out, trace: replayed.out, refused: null };
+  return { ada: "", trace: "", refused: (replayed ?? background ?? verified).err.trimEnd() || "no memory" };
+}
+
+/** What is told of a design that is over its limits: what `explain` says of it, and a run of it with its limits lifted, or why there is none. */
+async function lateAnswersOf({ design, arrivals }, line) {
+  const budgets = BUDGET.test(line) ? withoutBudgets(design) : { text: design, changes: [] };
+  const explained = await run(["explain", "design"], { design: budgets.text });
+  if (explained.status !== 0) return { explanation: null, why: `the rest of it is refused too: ${explained.err.trimEnd()}`, changes: budgets.changes };
+  const explanation = readExplanation(explained.out);
+  const lifted = explanation.miss === null ? { ...budgets, why: null } : withLaterDeadlines(budgets.text, explanation.threads);
+  const changes = explanation.miss === null ? budgets.changes : [...budgets.changes, ...lifted.changes];
+  const told = { explanation, text: explained.out, changes, hasBudgets: budgets.changes.length > 0 };
+  if (lifted.why !== null) return { ...told, why: lifted.why };
+  const simulated = await runOf({ design: lifted.text, arrivals });
+  return { ...told, why: simulated.refused, simulated };
+}
+
 /** The answers for two texts: the bounds, which `early` gets at once, then the Ada text with the trace, as far as there are some. */
 async function answersOf({ design, arrivals }, early) {
   const texts = { design, arrivals };
   const bounds = await run(["analyse", "design"], texts);
-  if (bounds.status !== 0) return backgroundOf(design).length > 0 ? backgroundAnswersOf(texts) : { bounds };
+  if (bounds.status !== 0) {
+    const told = backgroundOf(design).length > 0 ? await backgroundAnswersOf(texts) : { bounds };
+    const refused = told.background ?? told.bounds;
+    return refused?.status === 1 && OVER.test(refused.err) ? { ...told, late: await lateAnswersOf(texts, refused.err) } : told;
+  }
   early(bounds);
   const count = await run(["check", "design"], texts);
   const verified = await run(["verify", "design", "arrivals"], texts);
@@ -178,7 +216,7 @@ function showRefusal({ err }, texts, before) {
 }
 
 function takeBounds({ out }, texts) {
-  state.bounds = readBounds(out);
+  state.bounds = readExplanation(out);
   state.boundsText = out;
   state.tick = tickOf(texts.design);
   showBounds();
@@ -191,6 +229,7 @@ function takeBackground(texts, { background, replayed }) {
   const met = `Every deadline of the hard threads of ${program.design} is met on the modelled processor, whatever the background does, `
     + "under all arrivals that keep their separations.";
   [state.bounds, state.ada, state.isBackground] = [null, background.out, true];
+  state.tick = tickOf(texts.design);
   if (replayed.status !== 0) return showRefusal(replayed, texts, `${met} There is no run with these arrivals. `);
   const milliseconds = Math.round(background.milliseconds + replayed.milliseconds);
   tell("good", [met, ""], `hard threads ${hard.length}, background objects ${backgroundOf(texts.design).length}; answered in ${milliseconds} ms`);
@@ -212,13 +251,15 @@ function takeVerified(texts, { bounds, count, verified, generated }) {
 }
 
 function showAnswers(texts, told) {
-  [state.ada, state.trace, state.isBackground] = ["", null, false];
+  [state.ada, state.trace, state.isBackground, state.late, state.design] = ["", null, false, told.late ?? null, texts.design];
+  takeUnit(texts.design);
   if (told.background !== undefined) takeBackground(texts, told);
   else if (told.bounds.status === 0) takeVerified(texts, told);
   else {
     state.bounds = null;
     showRefusal(told.bounds, texts, "");
   }
+  if (state.late !== null) state.tick = tickOf(texts.design);
   for (const panel of panels) {
     if (verbTabs.every((one) => one.panel !== panel)) panel.classList.remove("stale");
   }
@@ -226,6 +267,45 @@ function showAnswers(texts, told) {
   showAda();
   showTrace();
   showTimeline();
+  showDiagram();
+}
+
+/** The switch of units is there where a design tells how long a tick is. */
+function takeUnit(design) {
+  const microseconds = microsecondsOf(design);
+  at("units").hidden = microseconds === null;
+  state.clock = microseconds !== null && at("unit").value === "ms" ? new Clock(microseconds) : TICKS;
+}
+
+/** Tells all times in the unit that is chosen. */
+function changeUnit() {
+  takeUnit(state.design);
+  showBounds();
+  timeline.setClock(state.clock);
+  showDiagram();
+  for (const one of verbTabs) one.showAgain();
+}
+
+/** The bounds that are known of the design that is shown: those of `analyse`, of `explain`, or of the head of an Ada text; or null. */
+function knownBounds() {
+  if (state.bounds !== null) return state.bounds;
+  if (state.late !== null) return state.late.explanation;
+  if (!state.isBackground) return null;
+  const { hard, program } = tasksOf(state.ada);
+  return { threads: hard.map((task) => ({ ...task, response: task.bound, cost: undefined })),
+    ceilings: [...program.ceilings].map(([name, ceiling]) => ({ name, ceiling })) };
+}
+
+function showDiagram() {
+  diagram.take(state.design, knownBounds(), state.mark, state.clock);
+}
+
+/** Selects the text of an object of the diagram, and brings it into view; the focus stays. */
+function selectObject({ start, end }) {
+  const area = at("design");
+  area.setSelectionRange(start, end);
+  area.scrollTop = Math.max(0, (editors.design.rowOf(start) - 3) * LINE);
+  editors.design.pick(start, end);
 }
 
 function takeTrace(text) {
@@ -235,9 +315,10 @@ function takeTrace(text) {
 function showBounds() {
   const panel = at("panel-bounds");
   if (state.isBackground) return panel.replaceChildren(...backgroundBounds());
+  if (state.late !== null) return panel.replaceChildren(...lateBounds(state.late, panel));
   if (state.bounds === null) return panel.replaceChildren(make("p", { class: "note" }, "There are no bounds while the design is refused."));
   const tools = make("div", { class: "tools" }, saveButton("bounds.txt", () => state.boundsText));
-  panel.replaceChildren(tools, ...boundsTables(state.bounds, state.tick));
+  panel.replaceChildren(tools, ...boundsTables(state.bounds, state.tick, state.clock));
 }
 
 /** The bounds of the hard threads of a design with clients and servers, with the way to all that is told of it. */
@@ -245,9 +326,23 @@ function backgroundBounds() {
   const button = make("button", { type: "button" }, "Background objects and ceilings");
   button.addEventListener("click", () => { choose(at("tab-background")); at("tab-background").focus(); });
   const { hard } = tasksOf(state.ada);
-  const table = hard.length === 0 ? make("p", { class: "note" }, "The design has no hard thread.") : hardTable(hard, tickOf(at("design").value));
+  const table = hard.length === 0 ? make("p", { class: "note" }, "The design has no hard thread.") : hardTable(hard, state.tick, state.clock);
   return [make("div", { class: "tools" }, button), table, make("p", { class: "note" }, `Response: ${PROVED}.`)];
 }
+
+/** What is told of a design that is over its limits, whose bounds nobody promises. */
+function lateBounds({ explanation, text, why, hasBudgets }, panel) {
+  if (explanation === null) return [make("p", { class: "note" }, `There are no bounds while the design is refused; ${why}.`)];
+  const budgets = hasBudgets ? " Each budget is lifted here, since one of them is below its cost." : "";
+  const words = "The design is refused, so nothing is promised. The table tells the least solution of the response equations, as far as ten times each "
+    + `limit.${budgets} ${timesAre(state.clock, state.tick)}`;
+  const button = saveButton("explanation.txt", () => text);
+  return [make("div", { class: "tools" }, button), make("p", {}, make("b", {}, explainedHead(explanation))), make("p", { class: "note" }, words),
+    ...explainedParts(explanation, state.clock, panel), make("p", { class: "note" }, MENDS)];
+}
+
+const MENDS = "What to change: a cost or a body of a thread that is late or of one above it, a section that blocks it, a deadline, a period. "
+  + "tools/report/mend.py finds the least change of each number by which the design passes.";
 
 function saveButton(name, text) {
   const button = make("button", { type: "button", "aria-label": `Save ${name}` }, "Save\u2026");
@@ -287,9 +382,22 @@ function showTrace() {
 }
 
 function showTimeline() {
-  if (state.trace === null) return timeline.tell("There is no timeline while a text is refused.");
-  timeline.take(state.ada, state.trace.lines, state.isOther);
+  if (state.late !== null) showSimulation(state.late);
+  else if (state.trace === null) timeline.tell("There is no timeline while a text is refused.");
+  else timeline.take(state.ada, state.trace.lines, state.isOther, state.clock);
   state.isOther = false;
+}
+
+/** A run of a late design with its limits lifted, in which its own deadlines are drawn; or why there is none. */
+function showSimulation({ explanation, why, changes, simulated }) {
+  if (why !== null) return timeline.tell(`The design is refused, and there is no simulation of it: ${why}.`);
+  const deadlines = new Map(explanation.threads.map((one) => [one.name, one.deadline]));
+  const kinds = ["DEADLINE", "THREAD_BUDGET"].map((kind) => changes.filter(({ attribute }) => attribute === kind).length);
+  const told = [[kinds[0], "deadlines as late as their periods and the order of priorities let them be"], [kinds[1], "budgets at their most"]]
+    .filter(([count]) => count > 0).map(([, words]) => words).join(", and ");
+  const words = `A simulation without promise: the design is refused, and this is a run of it with ${told}. Deadlines are drawn as the design has `
+    + "them, and so are bounds: what is red ends past its deadline.";
+  timeline.take(simulated.ada, simulated.trace.trimEnd().split("\n"), state.isOther, state.clock, { deadlines, words });
 }
 
 // ---- Tabs, files and keys ----
@@ -305,6 +413,8 @@ function choose(tab) {
   // The focus isn't lost with the panel in which it was.
   if (held?.hidden) tab.focus();
   if (tab.id === "tab-timeline") timeline.render();
+  if (tab.id === "tab-bounds" && state.late !== null) showBounds();
+  diagram.render();
   wantChosen();
 }
 
@@ -382,12 +492,13 @@ function listenToButtons() {
   }
   at("file").addEventListener("change", openFile);
   at("format").addEventListener("click", format);
+  at("unit").addEventListener("change", changeUnit);
   at("help").addEventListener("click", () => at("how").showModal());
   at("close").addEventListener("click", () => at("how").close());
   at("take").addEventListener("click", takeSkeleton);
   at("own").addEventListener("click", takeOwnTrace);
   document.addEventListener("click", ({ target }) => { if (target instanceof Element && target.matches("#cut, .cut")) runs.start(); });
-  window.addEventListener("resize", () => timeline.render());
+  window.addEventListener("resize", () => { timeline.render(); diagram.render(); });
 }
 
 /** The letter or number of a key, also where the system writes another sign with Alt. */
@@ -416,7 +527,7 @@ function listenToKeys() {
     if (event.getModifierState("AltGraph")) return;
     const key = letterOf(event);
     if (event.ctrlKey && event.key === "Enter") again();
-    else if (event.altKey && tabs[key - 1] !== undefined) choose(tabs[key - 1]);
+    else if (event.altKey && tabs[(Number(key) + 9) % 10] !== undefined) choose(tabs[(Number(key) + 9) % 10]);
     else if (event.altKey && key === "g") goToMark();
     else if (event.altKey && key === "h") at("how").showModal();
     else return;
@@ -468,6 +579,6 @@ listenToKeys();
 listenToExamples();
 show(firstTexts());
 choose(tabs[0]);
-at("last-tab").textContent = String(tabs.length);
+at("last-tab").textContent = String(tabs.length % 10);
 tell("", ["Starting\u2026", ""], "");
 runs.isReady.then(again, (fault) => tell("bad", [NEEDS, ""], fault.message));

@@ -83,6 +83,17 @@ class Editor {
     this.marks.scrollLeft = this.area.scrollLeft;
   }
 
+  /** Shows which part is picked, also while the focus is elsewhere, without a word of a fault. */
+  pick(start, end) {
+    if (this.mark !== null) return;
+    const text = this.area.value;
+    const picked = document.createElement("mark");
+    picked.className = "picked";
+    picked.textContent = text.slice(start, end);
+    this.marks.replaceChildren(text.slice(0, start), picked, text.slice(end), "\n ");
+    this.follow();
+  }
+
   /** Brings the marked place into view, and selects it. */
   go() {
     if (this.mark === null) return;

@@ -11,37 +11,11 @@ const FAR = "Too much happens here to be drawn: each height is the greatest resp
 const NEAR = "Drag to move, double-click to go closer; Ctrl and the wheel change the size. "
   + "Who runs follows from the trace; that is tested, and not proved.";
 
-const LEGEND = [
-  ["arrow", "release"], ["hollow", "release by a request from outside"], ["deadline", "deadline"], ["kept", "release to bound"], ["runs", "runs"],
-  ["object-0", "runs inside an object, at its ceiling"], ["waits", "ready, preempted"], ["blocked", "ready, blocked by lower priority"],
-  ["end", "end, response time"], ["diamond", "put"], ["request", "request"],
-];
-
-/** A small picture of a mark. */
-function markPicture(kind) {
-  const canvas = new Canvas(22, 22, null);
-  if (kind === "arrow" || kind === "hollow") {
-    canvas.path("arrow", "M11 21v-14");
-    canvas.path(kind === "hollow" ? "head hollow" : "head", "M11 1l-3.5 7h7z");
-  } else if (kind === "deadline") {
-    canvas.path("deadline", "M11 1v16");
-    canvas.path("deadline-head", "M11 21l-3.5 -7h7z");
-  } else if (kind === "kept") {
-    canvas.box("kept", 1, 2, 20, 18);
-    canvas.path("kept-end", "M21 2v18");
-  } else if (kind === "waits") canvas.box("waits", 1, 14, 20, 4);
-  else if (kind === "blocked") canvas.box("blocked", 1, 9, 20, 9);
-  else if (kind === "end") canvas.add("circle", { class: "end", cx: 11, cy: 11, r: 3.5 });
-  else if (kind === "diamond") canvas.path("diamond", "M11 6l4 5l-4 5l-4-5z");
-  else if (kind === "request") canvas.path("request", "M11 0v22");
-  else canvas.box(`part ${kind}`, 1, kind === "runs" ? 5 : 1, 20, kind === "runs" ? 13 : 18);
-  return canvas.root;
-}
-
 function legend() {
   return make("div", { class: "legend" }, ...LEGEND.map(([kind, words]) => {
     const made = make("span", { class: "key" });
-    made.append(markPicture(kind), words);
+    made.innerHTML = pictureOf(MARK, MARK, null, ...marksOf(kind)).write();
+    made.append(words);
     return made;
   }));
 }
@@ -51,6 +25,9 @@ class Timeline {
     this.panel = panel;
     this.style = style;
     this.trace = null;
+    this.clock = TICKS;
+    this.simulated = null; // of a late design: its deadlines, and the words that tell what this is
+    this.drawn = draw("svg", {}); // of the window that is shown
     this.from = 0;
     this.to = 1;
     this.moves = {
@@ -142,10 +119,13 @@ class Timeline {
   }
 
   /** Takes a trace, of the Ada text that was run. The window stays where the trace is as long as the one before. */
-  take(ada, lines, isOther) {
+  take(ada, lines, isOther, clock = TICKS, simulated = null) {
     const before = this.trace?.last;
+    this.clock = clock;
+    this.simulated = simulated;
     try {
       const program = readProgram(ada);
+      if (simulated !== null) for (const task of program.tasks.values()) task.deadline = task.bound = simulated.deadlines.get(task.name) ?? null;
       this.trace = new Trace(program, lines.slice(0, MOST_LINES));
     } catch (fault) {
       return this.tell(`There is no timeline: ${fault.message}.`);
@@ -172,9 +152,11 @@ class Timeline {
     const [from, to] = this.inputs;
     const save = saveButton("timeline.svg", () => this.picture());
     const cut = this.isCut ? [make("p", { class: "note" }, `The timeline is of the first ${MOST_LINES} lines of the trace.`)] : [];
+    if (this.simulated !== null) cut.unshift(make("p", { class: "simulated" }, this.simulated.words));
     this.note = make("p", { class: "note" });
+    this.totalsHolder = make("div", {}, this.totals());
     this.panel.replaceChildren(make("div", { class: "tools" }, save, ...buttons, make("label", {}, "from ", from), make("label", {}, "to ", to),
-      `of ${this.trace.last} ticks`), ...cut, this.holder, this.note, this.legend, this.details, this.totals());
+      `of ${this.trace.last} ticks`), ...cut, this.holder, this.note, this.legend, this.details, this.totalsHolder);
     this.render();
   }
 
@@ -191,15 +173,27 @@ class Timeline {
     const isFar = this.trace.countBetween(this.from, this.to) > MOST_EVENTS;
     try {
       this.run = isFar ? null : new Run(this.trace, this.from, this.to);
-      this.holder.replaceChildren(isFar ? new Heights(this.trace, this.from, this.to, width).draw() : new Chart(this.run, width).draw());
+      const { clock } = this;
+      this.drawn = isFar ? new Heights(this.trace, this.from, this.to, width, clock).draw() : new Chart(this.run, width, { clock }).draw();
+      if (this.simulated !== null) this.drawn.append(textAt(8, 14, "simulated, no promise", "small bad"));
+      this.holder.innerHTML = this.drawn.write();
       this.note.textContent = isFar ? FAR : NEAR;
       this.legend.hidden = isFar;
     } catch (fault) {
       this.run = null;
+      this.drawn = draw("svg", {});
       this.holder.replaceChildren();
       this.note.textContent = `This window can't be drawn: ${fault.message}.`;
     }
     this.showList();
+  }
+
+  /** Tells times in another unit. */
+  setClock(clock) {
+    this.clock = clock;
+    if (this.trace === null) return;
+    this.totalsHolder.replaceChildren(this.totals());
+    this.render();
   }
 
   showList() {
@@ -212,19 +206,16 @@ class Timeline {
   totals() {
     const rows = tasksByPriority(this.trace.program).map((task) => {
       const { releases, ends, greatest, overBound } = this.trace.totals.get(task.name);
-      return [task.name, task.kind(), task.priority, task.bound ?? "-", greatest ?? "-", releases, ends, overBound];
+      const time = (ticks) => (ticks === null ? "-" : this.clock.number(ticks));
+      return [task.name, task.kind(), task.priority, time(task.bound), time(greatest), releases, ends, overBound];
     });
-    return tableOf(`The whole trace: ${this.trace.events.length} lines, up to tick ${this.trace.last}`,
-      ["Task", "Kind", "Priority", "Bound", "Greatest response", "Releases", "Ends", "Late ends"], rows);
+    const end = this.clock.unit === "ticks" ? `tick ${this.trace.last}` : this.clock.time(this.trace.last);
+    return tableOf(`The whole trace: ${this.trace.events.length} lines, up to ${end}`,
+      ["Task", "Kind", "Priority", this.simulated === null ? "Bound" : "Deadline", "Greatest response", "Releases", "Ends", "Late ends"], rows);
   }
 
   /** The picture as a file, which needs nothing of the page. */
   picture() {
-    const copy = this.holder.querySelector("svg")?.cloneNode(true) ?? draw("svg", {});
-    const rules = draw("style", {});
-    rules.textContent = this.style;
-    copy.prepend(rules);
-    copy.setAttribute("xmlns", SVG);
-    return new XMLSerializer().serializeToString(copy);
+    return asFile(this.drawn, this.style);
   }
 }

@@ -2,29 +2,6 @@
 // here, of the trace, the texts, and the trace of the page's own run where there is one. Each place has words that tell how it was found.
 "use strict";
 
-/** The objects of a design as its text has them, also where it is refused: kind, whether it has a thread, children, HSER operations. */
-function objectsOf(design) {
-  const [found, open] = [[], []];
-  const tokens = tokensOf(design);
-  tokens.forEach(({ word }, place) => {
-    const [last, next] = [tokens[place - 1]?.word, tokens[place + 1]?.word];
-    if (word === "object" && last !== "end" && tokens[place + 2]?.word === "is") {
-      const made = { name: next, kind: tokens[place + 3]?.word, hasThread: false, hasChildren: false, hasHser: false };
-      found.push(made);
-      open.push(made);
-    } else if (word === "end" && open.at(-1)?.name === next) open.pop();
-    else if (word === "thread" && last !== "end" && open.length > 0) open.at(-1).hasThread = true;
-    else if (word === "objects" && open.length > 0) open.at(-1).hasChildren = true;
-    else if (word === "hser" && open.length > 0) open.at(-1).hasHser = true;
-  });
-  return found;
-}
-
-/** The background objects of a design, clients and servers, in the order of its text. */
-function backgroundOf(design) {
-  return objectsOf(design).filter((one) => one.kind === "active" && !one.hasChildren && (one.hasThread || one.hasHser));
-}
-
 /** The lines of a trace as events, and the horizon of the arrivals. */
 class GivenTrace {
   constructor(texts, own) {
@@ -32,7 +9,7 @@ class GivenTrace {
     this.events = this.lines.map((line, index) => readEvent(line, index + 1));
     this.own = own === null ? null : own.map((line, index) => readEvent(line, index + 1));
     this.horizon = Number(/\buntil\s+([\d_]+)/i.exec(texts.arrivals.replace(/--[^\n]*/g, ""))?.[1].replaceAll("_", ""));
-    this.threads = new Set(objectsOf(texts.design).filter((one) => one.hasThread).map((one) => one.name));
+    this.threads = new Set(readOutline(texts.design).objects.filter((one) => one.hasThread).map((one) => one.name));
   }
 
   /** The places of the events of this kind. */

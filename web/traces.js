@@ -1,12 +1,25 @@
-// What an Ada text and a trace of it say, and who runs when: tools/report/traces.py in JavaScript, function by function. The reasons stand there.
-// Times are ticks. Beyond the script a trace is kept whole, with the instants at which nothing is ready, so that a window is read from the
-// last of them before it, and no further than it needs.
-"use strict";
+// What an Ada text and a trace of it say, and who runs when. Times are ticks. A trace tells events, and who runs follows from them, from the
+// priorities and from the ceilings:
+//
+// - Between two instants with events the processor does not change hands. What dispatching looks at changes by releases, ends, leaves and requests,
+//   which are events, and by enters and beginnings of requests, which only raise the task that runs.
+// - At an instant only the task that ran up to it tells events of its own (`OWN`). Where there is one, it tells who ran.
+// - Where there is none, the ready task of the greatest active priority ran: its base priority, or the ceiling of the object it is inside. One thing
+//   is not told. A request is stored at the ceiling of the task that it requests, for two assignments, and the trace tells their end alone. So these
+//   stretches are gone through from the last to the first: then what each task does next is known.
+//
+// There is one gap. A task that tells nothing more before the trace ends may be storing a request. If another task was released meanwhile, fewer than
+// two assignments of ticks are in doubt, and `Stretch.rivals` names who else may have run then. All this is an argument on paper that was tried, and
+// nothing of it is proved.
+//
+// A trace is kept whole, with the instants at which nothing is ready, so that a window is read from the last of them before it, and no further than
+// it needs: a task may be storing a request unseen, only if it has run since it last told something. So where no ready task may have, what comes after
+// says nothing of what came before.
 
 const OWN = new Set(["enter", "leave", "put", "request", "end", "stop"]);
 
 /** What is wrong with an input, in one line. */
-class Fault extends Error {}
+export class Fault extends Error {}
 
 // ---- What the Ada text says ----
 
@@ -14,7 +27,7 @@ class Fault extends Error {}
 class Task {
   constructor(name) {
     this.name = name;
-    this.priority = this.period = this.offset = this.deadline = this.bound = this.jitter = null;
+    this.priority = this.period = this.offset = this.deadline = this.bound = this.jitter = this.cost = this.blocking = null;
     this.isCyclic = true;
     this.isExternal = false;
   }
@@ -25,7 +38,7 @@ class Task {
 }
 
 /** Takes from the tokens of an Ada text its tasks, ceilings and costs. The text is one that the program writes. */
-class ProgramReader {
+export class ProgramReader {
   constructor(text) {
     this.program = { design: null, tasks: new Map(), ceilings: new Map(), costs: new Map() };
     this.tokens = text.toLowerCase().replace(/--[^\n]*/g, "").match(/[a-z][a-z0-9_]*|[0-9][0-9_]*|:=|\.\.|[^\sa-z0-9]/g) ?? [];
@@ -97,7 +110,7 @@ class ProgramReader {
 }
 
 /** Reads an Ada text, and the bounds in comments at its head. */
-function readProgram(text) {
+export function readProgram(text) {
   const program = new ProgramReader(text).read();
   const tasks = [...program.tasks.values()];
   if (tasks.length === 0 || tasks.some((task) => task.priority === null) || !program.costs.has("assign")) {
@@ -112,24 +125,63 @@ function readProgram(text) {
   return program;
 }
 
+/** Adds to a program what `analyse` tells of its tasks. */
+export function readAnalysis(text, program) {
+  for (const line of text.split("\n")) {
+    const words = line.split(" ");
+    if (words[0] !== "thread") continue;
+    const task = words.length === 16 ? program.tasks.get(words[1]) : undefined;
+    if (task === undefined) throw new Fault(`the analysis is not of this text: ${line}`);
+    [task.period, task.deadline, task.jitter, task.cost, task.blocking, task.bound] = [5, 7, 9, 11, 13, 15].map((place) => Number(words[place]));
+  }
+}
+
 // ---- The lines of a trace ----
 
-/** The event of a line: who did what, when. `object` is what is entered, left, requested or stopped at. */
-function readEvent(line, place) {
-  const words = line.split(" ");
-  const [kind, task] = [words[1], words[2] ?? null];
-  const made = (object, operation, values) => ({ time: Number(words[0]), kind, task, object, operation, values: values.map(Number), line });
-  if (!/^[0-9]+ [a-z]+( |$)/.test(line)) throw new Fault(`line ${place} of the trace is none: ${line}`);
-  if (kind === "enter" || kind === "leave") {
-    const [unit, operation] = (words[3] ?? "").split(".");
-    return made(unit, operation, words.slice(4));
+/** The number that a word is; or null. */
+function numberIn(word) {
+  return word !== undefined && /^[0-9]+$/.test(word) ? Number(word) : null;
+}
+
+/** What the words of a line behind its time tell beside kind and task: an object, an operation, and words that are numbers; or null. */
+function partsOfLine(words) {
+  const [, kind, , fourth] = words;
+  const count = words.length;
+  const none = { object: null, operation: null };
+  if ((kind === "enter" || kind === "leave") && count >= 4) {
+    const [object, operation, ...more] = fourth.split(".");
+    return operation === undefined || more.length > 0 ? null : { object, operation, numbers: words.slice(4) };
   }
-  if (kind === "end") return made(null, null, [words[4]]);
-  if (kind === "release" || kind === "arrive" || kind === "put") return made(null, null, words.slice(3));
-  if (kind === "request") return made(words[3], null, words.slice(4));
-  if (kind === "horizon") return made(null, null, []);
-  if (kind === "stop") return made(words[3], null, [words[5], words[7]]);
-  throw new Fault(`line ${place} of the trace is none: ${line}`);
+  if (kind === "end" && count === 5 && fourth === "used") return { ...none, numbers: [words[4]] };
+  if (((kind === "release" || kind === "arrive") && (count === 3 || count === 4)) || (kind === "put" && count === 4)) {
+    return { ...none, numbers: words.slice(3) };
+  }
+  if (kind === "request" && (count === 4 || count === 5)) return { object: fourth, operation: null, numbers: words.slice(4) };
+  if (kind === "horizon" && count === 2) return { ...none, numbers: [] };
+  if (kind === "stop" && count === 8 && words[4] === "priority" && words[6] === "ceiling") {
+    return { object: fourth, operation: null, numbers: [words[5], words[7]] };
+  }
+  return null;
+}
+
+/** The event of a line: who did what. `object` is what is entered, left, requested or stopped at. `place` is the number of the line. */
+export function readEvent(line, place) {
+  const words = line.split(" ");
+  const time = numberIn(words[0]);
+  const parts = partsOfLine(words);
+  const values = parts?.numbers.map(numberIn);
+  if (time === null || parts === null || values.includes(null)) throw new Fault(`line ${place} of the trace is none: ${line}`);
+  return { time, kind: words[1], task: words[2] ?? null, object: parts.object, operation: parts.operation, values, line };
+}
+
+/** The Ada text, empty in the output of `replay`, and the lines of the trace, of what `verify` or `replay` writes. */
+export function splitOutput(text) {
+  const cut = text.indexOf("\n-- trace\n");
+  if (cut < 0 && !/^[0-9]+ [a-z]/.test(text)) throw new Fault("there is no trace, neither behind the line `-- trace` nor alone");
+  const lines = text.slice(cut < 0 ? 0 : cut + "\n-- trace\n".length).split("\n");
+  if (lines.at(-1) === "") lines.pop();
+  if (lines.length === 0) throw new Fault("the trace is empty");
+  return { ada: cut < 0 ? "" : text.slice(0, cut + 1), lines };
 }
 
 // ---- What the events up to an instant tell ----
@@ -216,7 +268,7 @@ class Follower {
 }
 
 /** The lines of a trace, read once: the events, what is counted of each task, and where a window may begin. */
-class Trace {
+export class Trace {
   constructor(program, lines) {
     this.program = program;
     this.events = lines.map((line, index) => readEvent(line, index + 1));
@@ -495,7 +547,7 @@ class Dispatching {
 }
 
 /** What a trace tells of the window from `start` to `end`, and who runs in it. */
-class Run {
+export class Run {
   constructor(trace, start, end) {
     const reader = new Reader(trace, start, end).read();
     const isSeen = (from, to) => reader.isSeen(from, to);
@@ -574,7 +626,7 @@ class Run {
 }
 
 /** Who runs when, as lines `FROM TO TASK`, with `in OBJECT` inside one, `for OBJECT` while a request is stored, and `or TASK` in doubt. */
-function listed(run) {
+export function listed(run) {
   return run.parts().map(({ start, end, task, object, isRequest, rivals }) => {
     const where = object === null ? [] : [isRequest ? "for" : "in", object];
     return [start, end, task, ...where, ...rivals.flatMap((name) => ["or", name])].join(" ");

@@ -39,7 +39,7 @@ function searchView(out, { design }) {
     : "The order by deadlines fails, and under this order each thread keeps its limits.";
   const note = make("p", { class: "note" }, "No Ada text is written for another order than that by deadlines, and no run of one is proved.");
   const response = isSame ? PROVED : "the least number that meets the response equations under this order";
-  const tables = boundsTables(readBounds(out), tickOf(design), response);
+  const tables = boundsTables(readExplanation(out), tickOf(design), state.clock, response);
   return [make("p", {}, make("b", {}, head)), ...(isSame ? [] : [note]), ...tables];
 }
 
@@ -52,11 +52,10 @@ function tasksOf(ada) {
 }
 
 /** The hard threads of an Ada text as a table, with their sums. */
-function hardTable(hard, tick) {
+function hardTable(hard, tick, clock) {
   const rows = hard.map(({ name, priority, deadline, jitter, bound }) =>
-    [name, priority, deadline, jitter, bound, deadline - bound, barOf({ name, response: bound, deadline })]);
-  const ticks = tick === null ? "Times are ticks." : `Times are ticks of ${tick}.`;
-  return tableOf(`Hard threads, by priority. ${ticks}`, ["Thread", "Priority", "Deadline", "Jitter", "Response", "Slack", "Of the deadline"], rows);
+    [name, priority, ...[deadline, jitter, bound, deadline - bound].map((ticks) => clock.number(ticks)), barOf({ name, response: bound, deadline }, clock)]);
+  return tableOf(`Hard threads, by priority. ${timesAre(clock, tick)}`, ["Thread", "Priority", "Deadline", "Jitter", "Response", "Slack", "Of the deadline"], rows);
 }
 
 const CLIENT = "runs in the time that the hard threads leave, and again as soon as it has ended; no bound and no share of the time is promised";
@@ -83,7 +82,7 @@ function backgroundView(out, { design }) {
   const ceilings = [...told.program.ceilings].map(([name, ceiling]) => ({ name, ceiling }));
   return [
     make("p", {}, make("b", {}, head)),
-    ...(told.hard.length === 0 ? [] : [hardTable(told.hard, tickOf(design))]),
+    ...(told.hard.length === 0 ? [] : [hardTable(told.hard, tickOf(design), state.clock)]),
     ...(isPlain ? [] : [backgroundTable(design, told)]),
     ...ceilingTable(ceilings),
     make("p", { class: "note" }, "The slack and the bars are reckoned by the page. What a client does inside a protected object counts as blocking."),
@@ -103,10 +102,8 @@ function acceptsView(out) {
 
 /** `explain`: what each response time is made up of, also where threads are over their limits. */
 function explainView(out) {
-  const head = /^miss /m.test(out)
-    ? "A thread is over its limits: the lines late, beyond and behind tell which are, and delayed and blocked what takes them there."
-    : "Each thread keeps its limits, and these are the terms of its response time.";
-  return [make("p", {}, make("b", {}, head)), linesOf(out.trimEnd().split("\n"))];
+  const explanation = readExplanation(out);
+  return [make("p", {}, make("b", {}, explainedHead(explanation))), ...explainedParts(explanation, state.clock, at("panel-explain"))];
 }
 
 const NO_TRACE = "Paste a trace below, open a file, or take that of this page's run and change it: is it one that the design allows under the "
@@ -133,6 +130,7 @@ class VerbTab {
     this.none = none;
     this.texts = null; // of the answer that is shown, or on its way
     this.mark = null; // of what it refuses
+    this.told = null; // what it answered
     this.tab = make("button", { type: "button", role: "tab", id: `tab-${verb}`, "aria-controls": `panel-${verb}` }, label);
     this.panel = at(`panel-${verb}`)
       ?? make("div", { role: "tabpanel", id: `panel-${verb}`, "aria-labelledby": `tab-${verb}`, tabindex: "0", hidden: "" });
@@ -154,7 +152,7 @@ class VerbTab {
       return;
     }
     const given = Object.fromEntries(this.takes.map((kind) => [kind, texts[kind]]));
-    [this.texts, this.mark] = [given, null];
+    [this.texts, this.mark, this.told] = [given, null, null];
     if (this.none !== undefined && this.takes.some((kind) => given[kind] === "")) return this.put(make("p", { class: "note" }, this.none));
     this.panel.setAttribute("aria-busy", "true");
     const stop = make("button", { type: "button", class: "go cut" }, "Stop");
@@ -163,9 +161,19 @@ class VerbTab {
     clearTimeout(slow);
     // A text has changed meanwhile, and its answer comes behind.
     if (this.texts !== given) return;
-    this.put(...this.shown(told, given));
-    if (told.fault === undefined) this.answer.classList.add(told.status === 0 ? "good" : "bad");
+    this.told = told;
+    this.showTold();
     showMarks();
+  }
+
+  showTold() {
+    this.put(...this.shown(this.told, this.texts));
+    if (this.told.fault === undefined) this.answer.classList.add(this.told.status === 0 ? "good" : "bad");
+  }
+
+  /** Shows the same answer again, as when times are told in another unit. */
+  showAgain() {
+    if (this.told !== null && this.texts !== null && this.panel.getAttribute("aria-busy") !== "true") this.showTold();
   }
 
   put(...parts) {

@@ -91,58 +91,6 @@ class Tables(unittest.TestCase):
             self.assertIn('analyse', err)
 
 
-DESIGN = '''DESIGN d IS
-   COSTS
-      ASSIGN = 1;
-   END COSTS;
-   OBJECT whole IS ACTIVE
-      OBJECTS
-         OBJECT store IS PROTECTED
-            PROVIDES
-               keep (v : in word) PAER;
-            OBJECTS
-               OBJECT cell IS PROTECTED
-                  PROVIDES
-                     hold (v : in word) PAER;
-                  OPERATION hold IS
-                  BEGIN
-                     null;
-                  END hold;
-               END cell;
-            IMPLEMENTS
-               keep BY cell.hold;
-         END store;
-         OBJECT reader IS CYCLIC
-            ATTRIBUTES
-               PERIOD = 10;
-            REQUIRES
-               store.keep;
-               alarm.sound;
-            DATA
-               v : word := 0;
-            THREAD
-               if v = 1 then
-                  store.keep (v);
-                  alarm.sound;
-               end if;
-               store.keep (2);
-               absent.keep (3);
-            END THREAD;
-         END reader;
-         OBJECT alarm IS SPORADIC
-            ATTRIBUTES
-               ARRIVAL_JITTER = 5;
-            PROVIDES
-               sound ASER;
-            THREAD
-               null;
-            END THREAD;
-         END alarm;
-   END whole;
-END d;
-'''
-
-
 PAIR = '''DESIGN d IS
 COSTS ASSIGN = 1; TEST = 1; TURN = 1; CALL = 2; NULL = 1; PUT = 1; FINISH = 1; END COSTS;
 OBJECT whole IS ACTIVE
@@ -219,41 +167,6 @@ class Margins(unittest.TestCase):
     @unittest.skipUnless(HAS_PROGRAM, 'there is no program')
     def test_refused(self) -> None:
         self.assertEqual(self.table(PAIR.replace('= 4;', '= 3;')), (1, [], 'margins.py: one.design: refused V14 a cost 4 budget 3\n'))
-
-
-class Pictures(unittest.TestCase):
-    """picture_of_design.py"""
-
-    def test_arrows(self) -> None:
-        status, out, err = run([sys.executable, os.path.join(TOOLS, 'picture_of_design.py')], DESIGN)
-        self.assertEqual((status, err), (0, ''))
-        self.assertEqual([line.strip() for line in out.splitlines() if '->' in line], [
-            '"by arrivals" -> "alarm" [style=dashed];',
-            '"reader" -> "cell" [label="hold"];',
-            '"reader" -> "alarm" [label="sound", style=dashed];',
-        ])
-
-    def test_boxes(self) -> None:
-        picture = load('picture_of_design')
-        _, things = picture.read_design(DESIGN.splitlines())
-        self.assertEqual([(thing.name, thing.kind, [child.name for child in thing.children]) for thing in things], [
-            ('whole', 'ACTIVE', ['store', 'reader', 'alarm']), ('store', 'PROTECTED', ['cell']), ('cell', 'PROTECTED', []),
-            ('reader', 'CYCLIC', []), ('alarm', 'SPORADIC', []),
-        ])
-
-    def test_other_text(self) -> None:
-        for given in ('', 'refused S1\n', DESIGN[:300], DESIGN.replace('PERIOD = 10;', 'PERIOD = 10;\n            LIST')):
-            status, out, err = run([sys.executable, os.path.join(TOOLS, 'picture_of_design.py')], given)
-            self.assertEqual((status, out), (1, ''), given)
-            self.assertIn('format', err)
-
-    @unittest.skipUnless(HAS_PROGRAM, f'there is no program {PROGRAM}')
-    def test_examples(self) -> None:
-        for name in sorted(os.listdir(os.path.join(TOP, 'examples'))):
-            if name.endswith('.design'):
-                _, text, _ = run([PROGRAM, 'format', os.path.join(TOP, 'examples', name)])
-                status, out, _ = run([sys.executable, os.path.join(TOOLS, 'picture_of_design.py')], text)
-                self.assertEqual((status, out.count('{'), out[-2:]), (0, out.count('}'), '}\n'), name)
 
 
 @unittest.skipUnless(shutil.which('node'), 'there is no node')

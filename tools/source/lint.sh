@@ -38,8 +38,9 @@ files() {
 mapfile -t shell < <(files '\.sh$|^hrthood$|^\.ci/run$|\.bash$')
 mapfile -t python < <(files '\.py$')
 mapfile -t modules < <(files '\.mjs$')
-page=(web/{texts,runs,traces,trace_places,chart,bounds,timeline,verbs,page}.js)
-told=(web/{design_text,places,refusals}.js)
+page=(web/{texts,runs,trace_places,bounds,timeline,explained,diagram_tab,verbs,page}.js)
+told=(web/{design_text,places,refusals,markup,clock}.js)
+drawn=(web/{traces,chart,sheet,outline,layout,diagram,explanation,bars,tables,lifted,report,changes}.js)
 host=(web/library_{host,worker}.js)
 types=(--noEmit --allowJs --checkJs --target es2022 --module es2022 --moduleResolution node)
 
@@ -48,6 +49,7 @@ lint 'Python' flake8 --max-line-length 150 -- "${python[@]}"
 MYPYPATH=tools/report lint 'Python' mypy --cache-dir out/mypy --strict --ignore-missing-imports -- "${python[@]}"
 lint 'the page' tsc "${types[@]}" --lib es2022,dom,dom.iterable -- web/globals.d.ts "${page[@]}"
 lint 'words and places' tsc "${types[@]}" --strict --lib es2022,dom -- "${told[@]}"
+lint 'pictures' tsc "${types[@]}" --lib es2022 -- "${drawn[@]}"
 lint 'the worker' tsc "${types[@]}" --lib es2022,webworker -- "${host[@]}"
 lint 'node' tsc "${types[@]}" --lib es2022,dom,dom.iterable -- tools/source/node.d.ts "${modules[@]}"
 exit "$status"

@@ -1,4 +1,11 @@
 // What scripts that node runs take of it: anything. tsc reads this, so that it needs no declarations of node.
+declare module "node:assert/strict" {
+  const assert: any;
+  export default assert;
+}
+declare module "node:crypto" {
+  export const createHash: any;
+}
 declare module "node:child_process" {
   export const spawn: any;
   export const spawnSync: any;
@@ -38,12 +45,19 @@ declare module "node:process" {
   export const pid: any;
   export const stderr: any;
 }
+declare module "node:test" {
+  export const describe: any;
+  export const test: any;
+}
 declare module "node:tty" {
   export const isatty: any;
 }
 declare module "node:url" {
   export const fileURLToPath: any;
   export const pathToFileURL: any;
+}
+declare module "node:util" {
+  export const parseArgs: any;
 }
 declare module "node:v8" {
   export const setFlagsFromString: any;

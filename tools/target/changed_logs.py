@@ -26,6 +26,7 @@ import traces                   # noqa: E402
 
 PROGRAM = os.environ.get('PROGRAM', os.path.join(HERE, '..', '..', 'hrthood'))
 COLUMNS = 'change,logs,accepted,refused,same_replay,other_replay'
+OWN = frozenset(('enter', 'leave', 'put', 'request', 'end', 'stop'))    # the events that a task tells itself
 Log = list[list[str]]           # the words of each line
 Change = Callable[[Log, int], 'Log | None']
 
@@ -59,7 +60,7 @@ def value_changed(log: Log, place: int) -> Log | None:
 
 def exchanged(log: Log, place: int) -> Log | None:
     """Exchanges what two lines of different tasks say, and keeps their times."""
-    if place + 1 >= len(log) or not all(line[1] in traces.OWN for line in log[place:place + 2]) or log[place][2] == log[place + 1][2]:
+    if place + 1 >= len(log) or not all(line[1] in OWN for line in log[place:place + 2]) or log[place][2] == log[place + 1][2]:
         return None
     one, other = log[place:place + 2]
     return [*log[:place], [one[0], *other[1:]], [other[0], *one[1:]], *log[place + 2:]]

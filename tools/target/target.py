@@ -21,7 +21,7 @@ import sys
 from typing import Iterable, Iterator, NamedTuple
 
 sys.dont_write_bytecode = True
-sys.path.insert(0, os.path.join(os.path.dirname(os.path.realpath(__file__)), '..', 'report'))
+sys.path.insert(0, os.path.dirname(os.path.realpath(__file__)))
 import traces                   # noqa: E402
 from traces import Fault        # noqa: E402
 

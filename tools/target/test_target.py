@@ -15,8 +15,10 @@ sys.dont_write_bytecode = True
 HERE = os.path.dirname(os.path.realpath(__file__))
 EXAMPLES = os.path.join(HERE, '..', '..', 'examples')
 sys.path.insert(0, HERE)
+import changed_logs             # noqa: E402
 import costed                   # noqa: E402
 import initramfs                # noqa: E402
+import random_design            # noqa: E402
 import target                   # noqa: E402
 import test_bodies              # noqa: E402
 import traces                   # noqa: E402
@@ -251,6 +253,54 @@ class Places(unittest.TestCase):
         self.assertEqual(sum('hrt_forced' in line for line in inside), count)
         for statement in ('   begin', '         now := ada.real_time.clock;', '         current := calls;', '         else'):
             self.assertIn('hrt_forced', inside[inside.index(statement) + 1])
+
+
+class Changes(unittest.TestCase):
+    def test_each_change_changes_one_thing(self) -> None:
+        log = [line.split(' ') for line in TRACE.splitlines()]
+        for name, change in changed_logs.CHANGES.items():
+            found = [new for place in range(len(log)) for new in [change(log, place)] if new is not None]
+            self.assertTrue(found, name)
+            for new in found:
+                times = [int(line[0]) for line in new]
+                self.assertEqual(times, sorted(times), name)
+                self.assertEqual(new == log, name == 'none', name)
+                self.assertLessEqual(sum(one != other for one, other in zip(log, new)) if len(log) == len(new) else 1, 2, name)
+
+    def test_random_designs_are_those_of_their_seeds(self) -> None:
+        made = [random_design.Maker(seed).make() for seed in range(1, 21)]
+        self.assertEqual(made, [random_design.Maker(seed).make() for seed in range(1, 21)])
+        self.assertEqual(len(set(made)), 20)
+        text = ''.join(design for design, _ in made)
+        for part in ('inner.start', 'follower.start', 'ARRIVAL_JITTER', 'IS PASSIVE', 'swap', 'exit when', 'work ('):
+            self.assertIn(part, text)
+
+
+class Tables(unittest.TestCase):
+    def test_tables_are_written_and_compared(self) -> None:
+        names = ('emulated machine', 'other processors', 'logs', 'changed logs')
+        files = {'TARGET.md': 'a\n' + ''.join('<!-- %s -->\n<!-- end of %s -->\n' % (name, name) for name in names) + 'z\n',
+                 'assurance/target_runs.csv': 'where,target,tick_us,options,input,arrivals,lines,result,log\n'
+                 'qemu-system,x86_64,1000,-s,a.design,a.arrivals,26,same,\nqemu-user,s390x-linux-gnu,9,-s,b.design,b.arrivals,7,same,equal\n',
+                 'assurance/target_logs.csv': 'seed,lines,result,accepts,replay,is_trace\n1,4,same,yes lines 5,same,yes\n'
+                 '2,6,same,refused,different,no\n',
+                 'assurance/target_changed_logs.csv': 'change,logs,accepted,refused,same_replay,other_replay\nnone,3,2,1,1,2\n'}
+        with tempfile.TemporaryDirectory() as top:
+            os.makedirs(os.path.join(top, 'docs', 'assurance'))
+            for name, content in files.items():
+                with open(os.path.join(top, 'docs', name), 'w') as stream:
+                    stream.write(content)
+            statuses = []
+            rows: tuple[list[str], ...] = ([], ['--write'], [], ['--other'])
+            for words in rows:
+                script = [sys.executable, os.path.join(HERE, 'target_table.py')]
+                statuses.append(subprocess.run([*script, *words], capture_output=True, env=dict(os.environ, TARGET_TOP=top)).returncode)
+            self.assertEqual(statuses, [1, 0, 0, 2])
+            with open(os.path.join(top, 'docs', 'TARGET.md')) as stream:
+                page = stream.read()
+        for line in ('| `a.design` | `a.arrivals` | 1 | `-s` | 26 | same |', '| `s390x-linux-gnu` | 64 | big-endian | 7 | same | equal |',
+                     '| designs | 2 |', '| lines compared | 10 |', '| logs that `accepts` accepts | 1 |', '| none | 3 | 2 | 1 |'):
+            self.assertIn(line + '\n', page)
 
 
 class Words(unittest.TestCase):

@@ -20,8 +20,14 @@ from typing import Any
 
 TOP = os.path.dirname(os.path.dirname(os.path.dirname(os.path.abspath(__file__))))
 # Modules, each behind those that it imports, with what the scripts of the page use of them; then the scripts, which share their names.
-MODULES = (('design_text', ('tokensOf',)), ('places', ('markOf',)), ('refusals', ('Refusals',)))
-SCRIPTS = ('texts', 'runs', 'traces', 'trace_places', 'chart', 'bounds', 'timeline', 'verbs', 'page')
+MODULES = (('design_text', ('tokensOf',)), ('places', ('markOf',)), ('refusals', ('Refusals',)), ('clock', ('Clock', 'TICKS', 'microsecondsOf')),
+           ('markup', ('asFile', 'draw', 'textAt')), ('outline', ('backgroundOf', 'objectAt', 'readOutline')), ('layout', ()),
+           ('diagram', ('Diagram', 'MOST_WHOLE', 'linesOfObject')),
+           ('explanation', ('partsOf', 'readExplanation', 'slackOf', 'spareOf', 'termsOf', 'utilisationOf', 'wrongSums')),
+           ('tables', ('chainTable',)), ('bars', ('Bars', 'scaleFor')), ('lifted', ('withLaterDeadlines', 'withoutBudgets')),
+           ('traces', ('ProgramReader', 'Run', 'Trace', 'listed', 'readEvent', 'readProgram')),
+           ('chart', ('Chart', 'Heights', 'LEGEND', 'MARK', 'RIGHT', 'leftOf', 'marksOf', 'pictureOf', 'tasksByPriority')))
+SCRIPTS = ('texts', 'runs', 'trace_places', 'bounds', 'timeline', 'explained', 'diagram_tab', 'verbs', 'page')
 # What the page calls an example, and its texts: a design, arrivals and for some a trace.
 EXAMPLES = (
     ('Mine pump', 'mine_pump.design', 'one_water_alarm.arrivals', 'one_water_alarm.trace'),
@@ -54,10 +60,11 @@ def examples() -> dict[str, dict[str, str]]:
     return {name: {kind: text_of('examples', file) for kind, file in zip(kinds, files)} for name, *files in EXAMPLES}
 
 
-def module(name: str, used: tuple[str]) -> str:
+def module(name: str, used: tuple[str, ...]) -> str:
     """A module as a part of the one script: a function that is called at once, whose value is what it exports."""
     text = text_of('web', name + '.js')
-    text = re.sub(r'^import (\{[^}]*\}) from "\./(\w+)\.js";$', r'const \1 = module_\2;', text, flags=re.M)
+    text = re.sub(r'^import \{([^}]*)\} from "\./(\w+)\.js";$',
+                  lambda found: 'const {%s} = module_%s;' % (found[1].replace(' as ', ': '), found[2]), text, flags=re.M)
     exports = re.findall(r'^export (?:const|function|class) (\w+)', text, flags=re.M)
     text = re.sub(r'^export (?=const|function|class)', '', text, flags=re.M)
     if re.search(r'^(import|export)\b', text, flags=re.M):
@@ -94,9 +101,9 @@ def main() -> None:
         sys.exit(f'build_page: not a line of version, sources and kit: {made}')
     with open(module, 'rb') as binary:
         encoded = base64.b64encode(binary.read()).decode()
-    chart = text_of('web', 'chart.css')
+    chart, diagram, bars = [text_of('web', name + '.css') for name in ('chart', 'diagram', 'bars')]
     whole = filled(text_of('web', 'page.html'), {
-        'STYLE': text_of('web', 'page.css') + chart,
+        'STYLE': text_of('web', 'page.css') + chart + diagram + bars,
         'HELP': text_of('web', 'help.html'),
         'VERDICT': html.escape(last_line),
         'MADE': html.escape(made),
@@ -105,6 +112,8 @@ def main() -> None:
         'KIT': html.escape(told[3]),
         'EXAMPLES': as_script(examples()),
         'CHART': as_script(chart),
+        'DIAGRAM': as_script(diagram),
+        'BARS': as_script(bars),
         'REFUSALS': as_script(json.loads(text_of('web', 'refusals.json'))),
         'WORKER': as_script(text_of('web', 'library_host.js') + text_of('web', 'library_worker.js')),
         'MODULE': encoded,

@@ -51,10 +51,11 @@ export async function tryVerbTabs(page) {
     judge(told.head.includes(head) && told.text.includes(next), `the margin of ${design}: ${told.text}`);
   }
   await page.evaluate("document.getElementById('tab-scale').focus()");
-  const tabs = ["bounds", "timeline", "trace", "ada", "scale", "search", "background", "accepts", "explain"];
+  const tabs = ["bounds", "diagram", "timeline", "trace", "ada", "scale", "search", "background", "accepts", "explain"];
   for (const [index, tab] of tabs.entries()) {
-    await page.press(String(index + 1), 1, `Digit${index + 1}`);
-    same(await page.evaluate(`document.getElementById('panel-${tab}').hidden`), false, `Alt and ${index + 1} choose ${tab}`);
+    const key = (index + 1) % 10;
+    await page.press(String(key), 1, `Digit${key}`);
+    same(await page.evaluate(`document.getElementById('panel-${tab}').hidden`), false, `Alt and ${key} choose ${tab}`);
   }
   await page.evaluate("document.getElementById('tab-bounds').click()");
   console.log(`${count} answers in the tabs of verbs`);

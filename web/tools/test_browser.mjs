@@ -1,16 +1,18 @@
 #!/usr/bin/env node
 // Tries the page in a headless Chromium: each verb over the examples as the program answers, byte for byte, and what the page shows of it.
 //
-//     PROGRAM=./hrthood web/tools/test_browser.mjs [--pictures FOLDER] [PAGE.html]
+//     PROGRAM=./hrthood web/tools/test_browser.mjs [--pictures FOLDER] [--only STEP,STEP..] [PAGE.html]
 //
 // PAGE.html is out/page/lafomizana.html where it isn't named, and CHROMIUM the path of a browser. Exit status 0 tells that all went as wanted, 1
-// that something did not, and 2 that nothing was tried, as there is no browser, no page or no program. --pictures takes pictures to look at.
+// that something did not, and 2 that nothing was tried, as there is no browser, no page or no program. --pictures takes pictures to look at,
+// and --only does some of the steps, by the names of their functions.
 import { spawnSync } from "node:child_process";
 import { existsSync, mkdtempSync, readFileSync, readdirSync, rmSync, writeFileSync } from "node:fs";
 import { tmpdir } from "node:os";
 import { basename, join, resolve } from "node:path";
 import { pathToFileURL } from "node:url";
 import { findBrowser, openBrowser } from "./browser.mjs";
+import { PICTURES, tryBars, tryDiagram, tryLate, tryUnits } from "./page_pictures.mjs";
 import { tryBackground, tryTraces, tryVerbTabs } from "./page_tabs.mjs";
 import {
   EXAMPLES, MOST, TOP, answerOf, count, designs, filesOf, hasBackground, js, judge, judgeMark, panelOf, program, read, same, set, shown,
@@ -18,6 +20,7 @@ import {
 
 const words = process.argv.slice(2);
 const pictures = words[0] === "--pictures" ? words.splice(0, 2)[1] : null;
+const only = words[0] === "--only" ? words.splice(0, 2)[1].split(",") : null;
 const file = resolve(words[0] ?? join(TOP, "out/page/lafomizana.html"));
 
 // ---- What the program answers ----
@@ -192,13 +195,11 @@ async function tryPrinted(page) {
 
 // ---- The timeline, and what is saved ----
 
-const LEGEND = new Set(["release", "release by a request from outside", "deadline"]);
-
-/** The titles of all marks in the window as tools/report/chart.py draws it. */
+/** The titles of all marks in the window as tools/report/chart.mjs draws it from what the program writes. */
 function chartTitles(output, from, to) {
-  const drawn = spawnSync("python3", [join(TOP, "tools/report/chart.py"), "--from", String(from), "--to", String(to)], { input: output, maxBuffer: MOST });
-  const titles = [...drawn.stdout.toString().matchAll(/<title>([^<]*)<\/title>/g)].map((found) => found[1]).slice(1);
-  return titles.filter((title) => !LEGEND.has(title)).sort();
+  const words = [join(TOP, "tools/report/chart.mjs"), "--from", String(from), "--to", String(to)];
+  const drawn = spawnSync(process.execPath, words, { input: output, maxBuffer: MOST });
+  return [...drawn.stdout.toString().matchAll(/<title>([^<]*)<\/title>/g)].map((found) => found[1]).sort();
 }
 
 /** @type {[string, string, number[][]][]} */
@@ -234,7 +235,7 @@ async function tryTimeline(page) {
       count += found.length;
     }
   }
-  console.log(`${count} marks of the timeline as tools/report/chart.py draws them`);
+  console.log(`${count} marks of the timeline as tools/report/chart.mjs draws them`);
 }
 
 /** The window moves by keys and by the mouse. */
@@ -273,7 +274,7 @@ async function trySaves(browser, page) {
   wanted["margin.txt"] = answerOf(["scale", "mine_pump.design"]).out.toString();
   wanted["background.ada"] = answerOf(["background", "mine_pump.design"]).out.toString();
   wanted["verdict.txt"] = "yes lines 36\n";
-  const saves = [["bounds", "bounds.txt"], ["timeline", "timeline.svg"], ["trace", "trace.txt"], ["ada", "design.ada"], ["scale", "margin.txt"],
+  const saves = [["bounds", "bounds.txt"], ["diagram", "diagram.svg"], ["timeline", "timeline.svg"], ["trace", "trace.txt"], ["ada", "design.ada"], ["scale", "margin.txt"],
     ["background", "background.ada"], ["accepts", "verdict.txt"]];
   for (const [tab, name] of saves) {
     await page.evaluate(`document.getElementById('tab-${tab}').click()`);
@@ -282,7 +283,7 @@ async function trySaves(browser, page) {
     for (const end = Date.now() + 20000; Date.now() < end && !existsSync(join(room, name)); ) await new Promise((done) => setTimeout(done, 50));
     const text = existsSync(join(room, name)) ? readFileSync(join(room, name), "utf8") : "";
     if (wanted[name] !== undefined) judge(text === wanted[name], `${name} is saved as the program writes it`);
-    else judge(/^<svg .*<style>[^]*<\/svg>$/.test(text), `${name} is saved`);
+    else judge(/^<svg .*<style>[^]*<\/svg>\n$/.test(text), `${name} is saved`);
   }
   rmSync(room, { recursive: true, force: true });
 }
@@ -396,7 +397,7 @@ async function tryKeyboard(page) {
     else same(await page.evaluate("document.activeElement.ariaLabel || document.activeElement.id"), name, `the Tab key reaches ${name}`);
   }
   await page.evaluate("(() => { document.getElementById('tab-timeline').click(); document.getElementById('window').focus(); })()");
-  await page.press("5", 1, "Digit5");
+  await page.press("6", 1, "Digit6");
   same(await page.evaluate("document.activeElement.id"), "tab-scale", "the focus goes to the tab where its panel is hidden");
   await page.evaluate("(() => { document.getElementById('tab-timeline').click(); document.getElementById('tab-timeline').focus(); })()");
   await page.press("ArrowRight");
@@ -423,7 +424,7 @@ const CONTRAST = `(() => {
   for (const element of document.querySelectorAll("body *")) {
     const hasText = [...element.childNodes].some((node) => node.nodeType === 3 && node.textContent.trim() !== "");
     const isSvg = element instanceof SVGElement;
-    if (!hasText || element.closest(".marks, script, style, [hidden], defs, title") || element.getClientRects().length === 0) continue;
+    if (!hasText || element.closest(".marks, .alarm-sign, script, style, [hidden], defs, title") || element.getClientRects().length === 0) continue;
     const style = getComputedStyle(element);
     // Words inside a box have an edge of their own.
     const behind = isSvg && element.matches(".inside") ? [34, 34, 34] : ground(element);
@@ -443,6 +444,15 @@ async function tryColours(page) {
     await set(page, { design: read("faults/u1.design"), arrivals: read("until_20.arrivals") });
     same(await page.evaluate(CONTRAST), [], `texts of too little contrast in ${scheme} colours, of a refusal`);
   }
+  for (const scheme of ["light", "dark"]) {
+    await page.scheme(scheme);
+    for (const [tab, design] of PICTURES) {
+      await page.evaluate(`document.getElementById('tab-${tab}').click()`);
+      await set(page, { design: read(design), arrivals: read("until_20.arrivals") });
+      await page.until("document.querySelector('[aria-busy=true]') === null", 60);
+      same(await page.evaluate(CONTRAST), [], `texts of too little contrast in ${scheme} colours, of ${tab} of ${design}`);
+    }
+  }
   const others = [["scale", "jittered_alarm.design"], ["search", "jittered_alarm.design"], ["background", "logged_control.design"],
     ["background", "faults/a2.design"], ["accepts", "mine_pump.design"]];
   for (const scheme of ["light", "dark"]) {
@@ -457,7 +467,7 @@ async function tryColours(page) {
 }
 
 async function tryNarrow(page) {
-  for (const [tab, design] of [["timeline", "mine_pump.design"], ["accepts", "mine_pump.design"], ["background", "logged_control.design"]]) {
+  for (const [tab, design] of [["timeline", "mine_pump.design"], ["accepts", "mine_pump.design"], ["background", "logged_control.design"], ...PICTURES]) {
     await page.evaluate(`document.getElementById('tab-${tab}').click()`);
     await set(page, { design: read(design), arrivals: read("one_water_alarm.arrivals"), trace: read("faults/t2e.trace") });
     for (const width of [360, 600, 900]) {
@@ -535,9 +545,13 @@ try {
   console.log(`${await browser.version()}, ${basename(file)}`);
   const page = await browser.open(pathToFileURL(file).href);
   await page.until("document.querySelector('#verdict.good')", 120);
-  const steps = { tryVerbs, tryCodes, tryMarks, tryTyping, tryFormat, tryBegin, tryPrinted, tryVerbTabs, tryBackground, tryTraces, tryTimeline, tryWindow, tryLarge, tryMemory,
-    tryStop, tryKeyboard, tryColours, tryNarrow };
-  for (const [name, step] of Object.entries(steps)) await step(page).catch((fault) => judge(false, `${name}: ${fault.message}`));
+  const steps = { tryVerbs, tryCodes, tryMarks, tryTyping, tryFormat, tryBegin, tryPrinted, tryVerbTabs, tryBackground, tryTraces, tryTimeline, tryWindow,
+    tryDiagram, tryBars, tryLate, tryUnits, tryLarge, tryMemory, tryStop, tryKeyboard, tryColours, tryNarrow };
+  const unknown = (only ?? []).filter((name) => steps[name] === undefined);
+  if (unknown.length > 0) judge(false, `no such step: ${unknown.join(", ")}`);
+  for (const [name, step] of Object.entries(steps)) {
+    if (only === null || only.includes(name)) await step(page).catch((fault) => judge(false, `${name}: ${fault.message}`));
+  }
   await trySaves(browser, page);
   await tryQuiet(page);
   if (pictures !== null) await takePictures(page);

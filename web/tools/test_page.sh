@@ -1,6 +1,6 @@
 #!/usr/bin/env bash
-# Makes the page of the proved crate, and tests it: that the kept page is this one, its heap, its timeline beside the chart, and all of it in a
-# browser beside the program. With a path in PROGRAM that program is run, else ./hrthood. Where no node or no Chromium is found it says so, and
+# Makes the page of the proved crate, and tests it: that the kept page is this one, its heap, and all of it in a browser beside
+# the program. With a path in PROGRAM that program is run, else ./hrthood. Where no node or no Chromium is found it says so, and
 # claims nothing then.
 set -euo pipefail
 
@@ -18,8 +18,8 @@ if ! command -v node >/dev/null; then
     echo 'test_page: there is no node, so nothing else of the page is tested'
     exit "$failed"
 fi
+web/tools/test_lifted.mjs >out/page/lifted.txt || { cat out/page/lifted.txt; failed=1; }
 node web/tools/test_heap.mjs web/library_host.js || failed=1
-web/tools/test_timeline.py || failed=1
 status=0
 web/tools/test_browser.mjs || status=$?
 # 2 tells that there is no browser.

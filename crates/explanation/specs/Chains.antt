@@ -1,4 +1,4 @@
--- The response time and the jitter of a chain of requests, by what is told of its threads.
+-- The response time and the jitter of a chain of requests, by what is reported of its threads.
 -- All activations of a chain lie in one busy period of the level of its thread of lowest priority (Lehoczky 1990), so it takes at most the
 -- response time of that thread.
 use Rattle.std.specs.Prelude.{ℕ, List, fold, max, Option, Some, None}
@@ -23,6 +23,6 @@ lowest_place chain = fold (λ lowest place. max lowest place) 0 chain
 abbrev pub chain_response : List Reasons → List ℕ → ℕ
 chain_response ts chain = response_in (value_at ts (lowest_place chain))
 
--- its jitter: that of its first thread, which stands last
+-- its jitter: that of its first thread, which comes last
 abbrev pub chain_jitter : List Reasons → List ℕ → ℕ
 chain_jitter ts chain = fold (λ jitter place. jitter_in (value_at ts place)) 0 chain

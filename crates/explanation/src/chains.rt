@@ -46,7 +46,7 @@ pub fn chain_response(threads: &[Reasons], chain: &[u32]) -> u64
     response_in(value_at(threads, lowest_place(chain)))
 }
 
-/// The jitter of a chain: that of its first thread, which stands last, in ticks, and 0 where it is not known.
+/// The jitter of a chain: that of its first thread, which comes last, in ticks, and 0 where it is not known.
 pub fn chain_jitter(threads: &[Reasons], chain: &[u32]) -> u64
     ensures { result ≡ chain_jitter threads.now chain.now }
 {

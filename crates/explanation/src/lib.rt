@@ -2,7 +2,7 @@
 //!
 //! It stands on the table and the causes of `rt_block`, the bounds of `design_bounds` and, where a value is over its limit, on what
 //! `late_response` tells of each row. `explain` carries its promise: all threads by priority, the chains of requests and the ceilings,
-//! whether or not the design keeps its limits, and the utilisation. `delay_of` tells what a thread of higher priority takes of a window,
+//! whether or not the design keeps its limits, and the utilisation. `delay_of` gives what a thread of higher priority takes of a window,
 //! `chain_response` what a chain of requests takes.
 #![tactic(auto)]
 

@@ -179,7 +179,7 @@ abbrev pub explained : Option Late → List Reasons → List (List ℕ) → List
 explained late ts cs ceilings =
     late_line late ++ (flat_map (thread_lines ts) (enumerate_from 0 ts) ++ (flat_map (chain_line ts) cs ++ flat_map ceiling_line ceilings))
 
--- the utilisation in front of these lines where it is over 1000, so that no bounds can be, and else behind them
+-- the utilisation in front of these lines where it is over 1000, so that no bounds can be, and else after them
 abbrev pub with_utilisation : ℕ → List ℕ → List ℕ
 with_utilisation n lines = if nat_lt 1000 n then utilisation_line n ++ lines else lines ++ utilisation_line n
 

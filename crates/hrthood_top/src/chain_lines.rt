@@ -48,7 +48,11 @@ fn add_chain(
     text.extend_from_slice(b"chain ")?;
     text.extend_from_slice(name_at(threads, place))?;
     add_wide(text, b" jitter ", u128::from(chain_jitter(threads, chain)))?;
-    add_wide(text, b" response ", u128::from(chain_response(threads, chain)))?;
+    add_wide(
+        text,
+        b" response ",
+        u128::from(chain_response(threads, chain)),
+    )?;
     text.extend_from_slice(b" by")?;
     add_names(text, threads, starters)?;
     text.extend_from_slice(b"\n")?;

@@ -1,4 +1,4 @@
--- That what is told to block a thread is the longest section that keeps it waiting.
+-- That what is reported to block a thread is the longest section that keeps it waiting.
 use Rattle.std.proofs.Common.{◌≡◌, ℕ, zero, suc, ◌+◌, ◌-◌, ◌≤◌, ◌<◌, Bool, true, false, List, [], ◌∷◌, length, map, zip, Option, Some, None}
 use Rattle.std.proofs.Common.{refl, sym, ap, subst, ◌∙◌, arith}
 use Rattle.std.specs.Prelude.{filter, nat_le, nat_lt, option_and_then, option_map, slice_get, if◌then◌else◌}
@@ -32,8 +32,8 @@ use Rattle.law_explanations.proofs.Terms.{found-told}
 -- an item of two lists is one of each
 both-at : {A B : Type 0} (xs : List A) (ys : List B) (k : ℕ) (x : A) (y : B) → slice_get (zip xs ys) k ≡ Some (x, y)
     → (slice_get xs k ≡ Some x) × (slice_get ys k ≡ Some y)
-both-at [] ys k x y e = cc
-both-at (z ∷ xs) [] k x y e = cc
+both-at {A} {B} [] ys k x y e = (let q : A × B = (x, y) in absurd (none-some q e))
+both-at {A} {B} (z ∷ xs) [] k x y e = (let q : A × B = (x, y) in absurd (none-some q e))
 both-at {A} {B} (z ∷ xs) (w ∷ ys) zero x y e =
     let p : A × B = (z, w) in
     let q : A × B = (x, y) in

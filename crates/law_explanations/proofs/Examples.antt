@@ -51,7 +51,7 @@ not_kept_by_period h = omega (arith, h.1)
 given_up_is_not_kept : (IsKept limits (Beyond 3 0 101) → ⊥) × (IsKept limits (Behind 1) → ⊥)
 given_up_is_not_kept = (λ h. h, λ h. h)
 
--- a thread over a limit and one that is given up are told to be late; one behind another is not
+-- a thread over a limit and one that is given up are reported late; one that needs another's bound is not
 told_late : IsToldLate limits (Solved 0 11) × IsToldLate limits (Beyond 3 0 101)
 told_late = (inl (omega arith), tt)
 
@@ -61,7 +61,7 @@ not_told_late h = at_limits h
 behind_is_not_late : IsToldLate limits (Behind 1) → ⊥
 behind_is_not_late h = h
 
--- at least what is told, in both numbers; over ten times a limit where it is given up
+-- at least what is reported, in both numbers; over ten times a limit where it is given up
 at_least : IsAtLeast (Solved 2 8) limits (bound 2 8) × IsAtLeast (Beyond 3 0 101) limits (bound 0 101) × IsAtLeast (Behind 1) limits (bound 0 0)
 at_least = ((omega arith, omega arith), inl (omega arith), tt)
 

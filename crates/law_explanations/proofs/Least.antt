@@ -1,4 +1,4 @@
--- That the numbers that are told are at most those of every solution, so that late threads are late in each.
+-- That the numbers that are reported are at most those of every solution, so that late threads are late in each.
 use Rattle.std.proofs.Common.{◌≡◌, ◌⊎◌, ℕ, ◌+◌, ◌≤◌, ◌<◌, List, Option, Some, inl, inr, sym, ap, subst, ◌∙◌, arith}
 use Rattle.std.specs.Prelude.{slice_get}
 use Rattle.rt_response.specs.declared.rows.ThreadRow.{ThreadRow}

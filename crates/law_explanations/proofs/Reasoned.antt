@@ -1,7 +1,7 @@
--- What is told of the thread at a place of the table: it has the priority of that place, with its row, and the cause of its blocking.
+-- What is reported of the thread at a place of the table: it has the priority of that place, with its row, and the cause of its blocking.
 use Rattle.std.proofs.Common.{◌≡◌, ℕ, zero, suc, ◌+◌, ◌-◌, ◌<◌, List, [], ◌∷◌, length, map, zip, Option, Some, refl, sym, ap, ◌∙◌, arith}
-use Rattle.std.specs.Prelude.{filter_map, option_and_then, slice_get}
-use Rattle.std.proofs.lemmas.Option.{same_Some, slice_get_within}
+use Rattle.std.specs.Prelude.{filter_map, option_and_then, option_map, slice_get}
+use Rattle.std.proofs.lemmas.Option.{none-some, same_Some, slice_get_within}
 use Rattle.seq_tree.specs.Lists.{Each}
 use Rattle.ods_tree.specs.Flats.{Flat, Thread}
 use Rattle.rt_response.specs.declared.rows.ThreadRow.{ThreadRow}
@@ -26,14 +26,8 @@ down-at (suc n) (suc i) h = let z : n - i ≡ suc n - suc i = omega arith in dow
 
 -- an item of two lists is one of both
 zipped-with : {A B : Type 0} (xs : List A) (ys : List B) (i : ℕ) (z : A × B) → slice_get (zip xs ys) i ≡ Some z → slice_get xs i ≡ Some z.0
-zipped-with [] ys i z e = absurd (by z e)
-  where
-    by : {C : Type 0} (z : C) → slice_get [] i ≡ Some z → ⊥
-    by z e = cc
-zipped-with (x ∷ xs) [] i z e = absurd (by z e)
-  where
-    by : {C : Type 0} (z : C) → slice_get [] i ≡ Some z → ⊥
-    by z e = cc
+zipped-with [] ys i z e = absurd (none-some z e)
+zipped-with (x ∷ xs) [] i z e = absurd (none-some z e)
 zipped-with {A} {B} (x ∷ xs) (y ∷ ys) zero z e =
     let p : A × B = (x, y) in
     ap (λ w. Some w.0) (same_Some p z e)
@@ -60,7 +54,7 @@ module _ (f : Flat) where
       let made : row_at f ps k ≡ Some (row_of f ps u (n - i)) = rw (is, there.1) refl in
       all-made-at (row_at f ps) (table f).places row-there i k (row_of f ps u (n - i)) at made
 
--- what is told of a thread of a flat design
+-- what is reported of a thread of a flat design
 pub record IsReason (first : ℕ) (f : Flat) (found : List Reach) (i : ℕ) (t : Reasons) : Type 0 where
   pub inside : i < length f.threads
   pub place : ℕ
@@ -86,18 +80,22 @@ module _ (first : ℕ) (f : Flat) (found : List Reach) (long : length found ≡ 
     blocker = option_and_then (blocker_of f) k.1.1.1.0;
   }
 
+  reason-made : (k : Known) (u : Thread) → slice_get f.threads k.0 ≡ Some u → reasons_at f k ≡ Some (told k u)
+  reason-made k u e = ap (option_map (told k)) e
+
   told-there : (j : ℕ) (k : Known) → slice_get ks j ≡ Some k → (t : Reasons) × (reasons_at f k ≡ Some t)
   told-there j k at =
       let place = zipped-with (table f).places _ j k at in
       let u = has-at f.threads k.0 (all-at (λ p. p < length f.threads) (table f).places j k.0 (places-stand f) place) in
-      (told k u.0, rw u.1 refl)
+      (told k u.0, reason-made k u.0 u.1)
 
   pub reason-is : (i : ℕ) (t : Reasons) → slice_get (reasons_of first f found) i ≡ Some t → IsReason first f found i t
   reason-is i t at =
       let as_rows = told-rows first f found long in
       let row_at : slice_get (table f).rows i ≡ Some t.row = ap (λ l. slice_get l i) (sym as_rows) ∙ map-at (λ (x : Reasons). x.row) _ i t at in
       let within = slice_get_within (table f).rows i t.row row_at in
-      let inside : i < length f.threads = omega (arith, within, rows-long f, order-count f) in
+      let count : length (table f).rows ≡ length f.threads = rows-long f ∙ order-count f in
+      let inside : i < length f.threads = omega (arith, within, count) in
       let level : ℕ = length f.threads - i in
       let order = order-at f i inside in
       let u = has-at f.threads order.0 (all-at (λ p. p < length f.threads) (table f).places i order.0 (places-stand f) order.1) in
@@ -110,7 +108,7 @@ module _ (first : ℕ) (f : Flat) (found : List Reach) (long : length found ≡ 
       let known : slice_get ks i ≡ Some k =
       zip-at (table f).places _ i order.0 _ order.1 (zip-at (table f).rows _ i _ _ row (zip-at found _ i r.0 _ r.1
       (zip-at (causes f) (numbered first (downwards (length f.threads))) i _ _ caused written))) in
-      let made : reasons_at f k ≡ Some (told k u.0) = rw u.1 refl in
+      let made : reasons_at f k ≡ Some (told k u.0) = reason-made k u.0 u.1 in
       let same : told k u.0 ≡ t = same_Some (told k u.0) t (sym (all-made-at (reasons_at f) ks told-there i k (told k u.0) known made) ∙ at) in
       record {
         inside = inside;

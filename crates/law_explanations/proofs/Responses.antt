@@ -1,4 +1,4 @@
--- That each chain that is told of a design takes at most the response time that is printed of it.
+-- That each chain that is reported of a design takes at most the response time that is printed of it.
 use Rattle.std.proofs.Common.{◌≡◌, ℕ, zero, suc, ◌+◌, List, [], ◌∷◌, ◌++◌, length, map, zip, fold, Option, Some, None}
 use Rattle.std.proofs.Common.{refl, sym, ap, subst, ◌∙◌, arith}
 use Rattle.std.specs.Prelude.{filter_map, max, option_and_then, option_map, reverse, slice_get}
@@ -43,7 +43,7 @@ lowest-from a (place ∷ more) =
 lowest-same : (chain : List ℕ) → lowest_place chain ≡ lowest_row chain
 lowest-same chain = let z : max 0 (lowest_row chain) ≡ lowest_row chain = omega arith in lowest-from 0 chain ∙ z
 
--- what is told of a place is its bound
+-- what is reported of a place is its bound
 response-same : (ts : List Reasons) (v : List Bound) (place : ℕ) → map (λ t. t.reach) ts ≡ map solved_of v
     → response_in (value_at ts place) ≡ paths.response_in (slice_get v place)
 response-same [] [] place h = refl
@@ -140,7 +140,7 @@ of-names : (P : Name → List Name → Type 0) (qs : List Response) → OfChain 
 of-names P [] h = h
 of-names P (q ∷ qs) h = h
 
--- what is counted stands where it is counted
+-- an item that is counted has its place as its number
 counted-at : {A : Type 0} (n : ℕ) (xs : List A) (k : ℕ) (z : ℕ × A) → slice_get (enumerate_from n xs) k ≡ Some z → (z.0 ≡ n + k) × (slice_get xs k ≡ Some z.1)
 counted-at {A} n [] k z e = absurd (none-some z e)
 counted-at {A} n (x ∷ xs) zero z e =

@@ -71,7 +71,7 @@ all-solved rows v h = record {
   each = λ i r at. (let here = mapped-at solved_of v i r at in subst (IsTold rows i) here.2 (h.each i here.0 here.1));
 }
 
-found-told : (f : Flat) (found : List Reach) (late : Option Late) → LeastIsSolved → IsTable (table f).rows → IsFound f found late
+pub found-told : (f : Flat) (found : List Reach) (late : Option Late) → LeastIsSolved → IsTable (table f).rows → IsFound f found late
     → AreTold (table f).rows found
 found-told f found None law t h = subst (AreTold (table f).rows) (sym h.2) (all-solved (table f).rows h.0 (law (table f).rows h.0 t h.1))
 found-told f found (Some late) law t h = h.1

@@ -1,4 +1,4 @@
--- What is told to block a thread: the longest section of a thread of lower priority that keeps it waiting, and nothing where none does.
+-- What is reported to block a thread: the longest section of a thread of lower priority that keeps it waiting, and nothing if none does.
 -- Under ceilings a thread waits for at most one such section (Sha, Rajkumar and Lehoczky 1990).
 use Rattle.std.specs.Prelude.{◌≡◌, ℕ, ◌+◌, ◌-◌, ◌≤◌, ◌<◌, true, List, slice_get, Option, Some, None}
 use Rattle.std.specs.List.{list_any}
@@ -33,17 +33,17 @@ pub record KeepsWaiting (f : Flat) (level : ℕ) (u : Thread) (c : OpName) : Typ
   pub enters : list_any (same_op c) (entered (flat_services f) u.block) ≡ true
   pub reaches : level ≤ ceiling f (priorities_of f) c.object
 
--- the operation of what is told
+-- the operation of a blocker
 abbrev pub op_of : Blocker → OpName
 op_of b = record { object = b.object; op = b.op }
 
--- what is told is such a section of the thread that is named, with so many ticks; where nothing is told, there are none
+-- a blocker is such a section of the thread that is named, with so many ticks; without a blocker there are none
 abbrev pub IsBlocked : Flat → ℕ → ℕ → Option Blocker → Type 0
 IsBlocked f level ticks None = ticks ≡ 0
 IsBlocked f level ticks (Some b) =
     (u : Thread) × (u.name ≡ b.thread) × KeepsWaiting f level u (op_of b) × (section_ticks f (op_of b) ≡ ticks)
 
--- a thread of a flat design, its priority, and what is told of what blocks it
+-- a thread of a flat design, its priority, and what is reported to block it
 pub record IsLongest (first : ℕ) (f : Flat) (t : Reasons) : Type 0 where
   pub thread : Thread
   pub place : ℕ
@@ -56,7 +56,7 @@ pub record IsLongest (first : ℕ) (f : Flat) (t : Reasons) : Type 0 where
   -- no section that keeps it waiting is longer
   pub longest : (u : Thread) (c : OpName) → KeepsWaiting f level u c → section_ticks f c ≤ t.row.block
 
--- so it is of each thread that is told of in a sound flat design
+-- so it is of each thread that is reported of a sound flat design
 abbrev pub BlockersAreLongest : Type 0
 BlockersAreLongest =
     (first : ℕ) (f : Flat) (found : List Reach) (late : Option Late) (i : ℕ) (t : Reasons) → IsSound f → IsFound f found late

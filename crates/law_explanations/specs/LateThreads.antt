@@ -1,4 +1,4 @@
--- The numbers that are told of threads are the least solution of the response equations, and a thread that is told to be late is late in every
+-- The numbers that are reported of threads are the least solution of the response equations, and a thread that is reported late is late in every
 -- solution.
 -- The equations are those of Audsley et al. 1993, with jitters as in Tindell, Burns and Wellings 1994; here without limits.
 use Rattle.std.specs.Prelude.{◌≡◌, ◌⊎◌, ℕ, ◌+◌, ◌≤◌, ◌<◌, List, slice_get, Option, Some, ⊤}
@@ -20,26 +20,26 @@ use Rattle.explanation.specs.Threads.{reasons_of}
 abbrev pub IsOverLimit : ThreadRow → Bound → Type 0
 IsOverLimit row b = (row.deadline < b.response) ⊎ (row.period < b.jitter + b.response)
 
--- a bound that is at least what is told: where a row is given up, it is over ten times a limit
+-- a bound that is at least what is reported: where a row is given up, it is over ten times a limit
 abbrev pub IsAtLeast : Reach → ThreadRow → Bound → Type 0
 IsAtLeast (Solved jitter response) row b = (jitter ≤ b.jitter) × (response ≤ b.response)
 IsAtLeast (Beyond round jitter response) row b = IsFar row b
 IsAtLeast (Behind starter) row b = ⊤
 
--- what is told of a thread is at most what any solution has for it
+-- what is reported of a thread is at most what any solution has for it
 abbrev pub NumbersAreLeast : Type 0
 NumbersAreLeast =
     (first : ℕ) (f : Flat) (found : List Reach) (late : Option Late) (i : ℕ) (t : Reasons) (u : List Bound) (b : Bound)
     → IsSound f → IsFound f found late → slice_get (reasons_of first f found) i ≡ Some t → Meets (table f).rows u → slice_get u i ≡ Some b
     → IsAtLeast t.reach t.row b
 
--- a row that is told to be late: over a limit, or given up
+-- a row that is reported late: over a limit, or given up
 abbrev pub IsToldLate : ThreadRow → Reach → Type 0
 IsToldLate row (Solved jitter response) = IsOverLimit row (record { jitter = jitter; response = response })
 IsToldLate row (Beyond round jitter response) = ⊤
 IsToldLate row (Behind starter) = ⊥
 
--- a thread that is told to be late is over a limit in every solution
+-- a thread that is reported late is over a limit in every solution
 abbrev pub LateThreadsAreLate : Type 0
 LateThreadsAreLate =
     (first : ℕ) (f : Flat) (found : List Reach) (late : Option Late) (i : ℕ) (t : Reasons) (u : List Bound) (b : Bound)

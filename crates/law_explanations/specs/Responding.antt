@@ -1,4 +1,4 @@
--- What is told of a chain of requests holds in every run: it never takes longer than the response time that is printed of it.
+-- What is reported of a chain of requests holds in every run: it never takes longer than the response time that is printed of it.
 -- Chains are those of Tindell and Clark 1994; the bound comes of the busy periods of Lehoczky 1990.
 use Rattle.std.specs.Prelude.{◌≡◌, ℕ, List, [], ◌∷◌, filter_map, option_map, reverse, slice_get, Some, None}
 use Rattle.seq_tree.specs.Names.{Name}
@@ -32,7 +32,7 @@ abbrev pub OfNames : (Name → List Name → Type 0) → List Name → Type 0
 OfNames P [] = ⊥
 OfNames P (first ∷ more) = P first more
 
--- in every run of the program of a design that keeps its limits, each chain that is told of it responds within what is told
+-- in every run of the program of a design that keeps its limits, each chain that is reported of it responds within what is reported
 abbrev pub ExplainedChainsRespond : ℕ → Type 0
 ExplainedChainsRespond limit =
     (first : ℕ) (x : Design) (found : List Reach) (r : Arrivals) (told : List machine.Event) (at : ℕ) (chain : List ℕ)

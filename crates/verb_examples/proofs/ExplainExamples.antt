@@ -200,7 +200,7 @@ no_miss = refl
 abbrev ceilings : List CeilingRow
 ceilings = record { name = codes "s"; ceiling = 4 } ∷ []
 
--- the utilisation in front of other lines from 1001 on, and behind them up to 1000
+-- the utilisation in front of other lines from 1001 on, and after them up to 1000
 utilised : utilisation_line 763 ≡ codes "utilisation " ++ (decimal 763 ++ codes "\n")
 utilised = refl
 

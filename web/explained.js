@@ -1,0 +1,84 @@
+// What `explain` tells of a design as a table, bars and text, whether or not the design passes.
+"use strict";
+
+const BARS_WIDTH = 640; // pixels of the bars, at least where there is room
+
+/** The words of the head: whether each thread keeps its limits. */
+function explainedHead({ miss, threads }) {
+  if (miss === null) return "Each thread keeps its limits, and these are the terms of its response time.";
+  const late = threads.filter(isLate).map((one) => one.name);
+  const words = late.length === 0 ? "" : `: ${late.join(", ")}`;
+  return `${late.length === 1 ? "One thread is" : `${late.length} of ${threads.length} threads are`} over the limits${words}.`;
+}
+
+/** Whether a thread is over its deadline, or before its next release not done; one that is given up is. */
+function isLate(thread) {
+  const [slack, spare] = [slackOf(thread), spareOf(thread)];
+  return slack === null || slack < 0 || spare < 0;
+}
+
+const SPARE_HEADS = ["Thread", "Priority", "Period", "Deadline", "Jitter", "Cost", "Blocking", "Response", "Slack", "Spare"];
+const SPARE = "Slack is what is left to the deadline, and spare what is left to the next release.";
+
+/** The threads as a table, of which those that are late are marked. */
+function explainedTable(explanation, clock) {
+  const rows = explanation.threads.map((one) => [one.name, one.priority,
+    ...[one.period, one.deadline, one.jitter, one.cost, one.blocking, one.response, slackOf(one), spareOf(one)]
+      .map((ticks) => (ticks === null ? "-" : clock.number(ticks)))]);
+  const table = tableOf(`Threads, by priority; times in ${clock.unit}`, SPARE_HEADS, rows);
+  explanation.threads.forEach((thread, place) => table.tBodies[0].rows[place].classList.toggle("late", isLate(thread)));
+  return table;
+}
+
+/** What each line of a thread tells, in words: who starts it, what blocks it, what comes in between. */
+function explainedList({ threads }, clock) {
+  const items = threads.map((one) => {
+    const parts = [];
+    if (one.started !== null) parts.push(`started by ${one.started.by}, whose release may come ${clock.time(one.started.jitter)} late`);
+    if (one.blocked !== null) parts.push(`blocked by ${one.blocked.by} in ${one.blocked.inside} for ${clock.span(one.blocked.ticks)}`);
+    if (one.beyond !== null) parts.push("given up, as its response is over ten times its limit");
+    if (one.behind !== null) parts.push(`given up behind ${one.behind}`);
+    if (one.response !== null) parts.push(`${clock.number(one.response)} = ${termsOf(one, threads, clock).join(" + ")}`);
+    return make("li", { class: isLate(one) ? "late" : "" }, make("b", {}, one.name), ` ${parts.join("; ")}`);
+  });
+  return make("ul", { class: "why", "aria-label": "Of what each response is made" }, ...items);
+}
+
+/** Chains of requests, each with its bound from the release of the first thread to the end of the last. */
+function explainedChains(explanation, clock) {
+  if (explanation.chains.length === 0) return [];
+  const { caption, heads, rows } = chainTable(explanation, clock);
+  return [tableOf(caption, heads, rows)];
+}
+
+/** The bars, with a choice of their scale and a button that saves them. `room` is the element in which they stand. */
+function explainedBars(explanation, clock, room) {
+  const { threads } = explanation;
+  const scales = [["deadline", "each bar up to its deadline"], ["response", "each bar up to its response"], ["ticks", "one scale for all"]];
+  const pick = make("select", { class: "scale", "aria-label": "Scale of the bars" }, ...scales.map(([value, words]) => make("option", { value }, words)));
+  const isMissed = threads.some(isLate);
+  pick.value = isMissed ? "deadline" : scaleFor(threads);
+  const holder = make("div", { class: "holder still" });
+  let drawn;
+  const show = () => {
+    const inner = room.clientWidth - 30;
+    const width = inner > 0 && inner < 560 ? Math.max(320, inner) : Math.max(BARS_WIDTH, inner);
+    drawn = new Bars(explanation, width, { scale: pick.value, clock }).draw();
+    holder.innerHTML = drawn.write();
+  };
+  pick.addEventListener("change", show);
+  show();
+  const wrong = wrongSums(threads);
+  const sums = wrong === null
+    ? make("p", { class: "note" }, "Each response is the sum of its terms, as was checked here. Bars and sums are reckoned by the page.")
+    : make("p", { class: "wrong" }, wrong);
+  return [make("div", { class: "tools" }, saveButton("bars.svg", () => asFile(drawn, BARS_STYLE)), pick), sums, holder];
+}
+
+/** All that is told of an explanation. */
+function explainedParts(explanation, clock, room) {
+  if (explanation.threads.length === 0) return [make("p", { class: "note" }, "The design has no thread, so nothing is bounded.")];
+  const sums = make("p", { class: "sums" }, `${SPARE} Costs by periods come to ${utilisationOf(explanation.threads)} of the processor.`);
+  return [explainedTable(explanation, clock), sums, ...explainedBars(explanation, clock, room), ...explainedChains(explanation, clock),
+    make("details", {}, make("summary", {}, "The bars as text"), explainedList(explanation, clock))];
+}

@@ -11,7 +11,7 @@ use Rattle.rt_response.specs.declared.rows.ThreadRow.{ThreadRow}
 use Rattle.analysis.specs.Tables.{downwards, places_by_priority, row_of, row_at}
 use Rattle.law_calls.proofs.Shared.Places.{map-at}
 use Rattle.law_designs.proofs.Shared.PriorityLists.{position-is}
-use Rattle.law_designs.proofs.Shared.TabledPrograms.{has-at}
+use Rattle.law_designs.proofs.Shared.Lists.{has-at}
 use Rattle.law_orders.specs.Orders.{IsOrder, priority_in, priorities_by, rows_by}
 use Rattle.law_orders.proofs.Shared.OrderPlaces.{AtOnce, order-long, order-within, order-has, order-once, priority-place}
 

@@ -66,7 +66,7 @@ module _ (f : Flat) (o : List ℕ) (order : IsOrder f o) where
       let z : 0 + k ≡ k = omega arith in
       map-at (priority_in o) (range_with_len 0 n) k k (range-at 0 n k h ∙ ap Some z)
 
-  at-priority : (k p : ℕ) → slice_get ps k ≡ Some p → (k < n) × (priority_in o k ≡ p)
+  pub at-priority : (k p : ℕ) → slice_get ps k ≡ Some p → (k < n) × (priority_in o k ≡ p)
   at-priority k p e =
       let inside : k < length ps = slice_get_within ps k p e in
       let less : k < n = (let q = priorities-long in omega (arith, inside, q)) in

@@ -22,7 +22,7 @@
 //! - `OrderBlocking`: the blocking of a thread by an order is that of the last of the threads that aren't below it.
 //! - `OrderPlaces`: orders by their places: each thread stands in an order once, and its priority counts the places from its own to the
 //!   end.
-//! - `OrderRankings`: the priorities by an order are a ranking.
+//! - `OrderRankings`: the priorities by an order are a ranking, and what is worked out by it is its table and its ceilings.
 //! - `OrderRows`: the table of an order: its rows stand in the order's places.
 //! - `OrderSums`: what the threads above a place of an order take of a window, over its rows.
 //! - `OrderTables`: the table of an order is in its ranges, and so are its rows by themselves where no thread starts another.

@@ -21,19 +21,19 @@ use Rattle.law_runs.proofs.Shared.DesignLaw.{guaranteed-by-deadlines}
 use Rattle.law_texts.proofs.Shared.RankedTexts.{ranked-spelled, ranked-guaranteed, ranked-accepted}
 
 module _ (x : Design) (bytes : List ℕ) (reads : Reads bytes x) (met : MeetsRules x) (v : List Bound) (fits : Fits (table (flat (in_ticks x))).rows v)
-    where
-  abbrev y : Design
-  y = in_ticks x
+  where
+    abbrev y : Design
+    y = in_ticks x
 
-  abbrev ps : List ℕ
-  ps = priorities_of (flat (in_ticks x))
+    abbrev ps : List ℕ
+    ps = priorities_of (flat (in_ticks x))
 
-  pub text-spelled : plain (tokens (text y v)) ≡ Ok (program_tokens (program y))
-  text-spelled = ranked-spelled x bytes reads met ps (deadline-ranking (flat y)) v fits
+    pub text-spelled : plain (tokens (text y v)) ≡ Ok (program_tokens (program y))
+    text-spelled = ranked-spelled x bytes reads met ps (deadline-ranking (flat y)) v fits
 
-  pub text-guaranteed : (limit : ℕ) → length (text y v) ≤ ada_limit → Guaranteed limit y (text y v) v
-  text-guaranteed limit short =
-      guaranteed-by-deadlines limit y (text y v) v (ranked-guaranteed x bytes reads met ps (deadline-ranking (flat y)) v fits limit short)
+    pub text-guaranteed : (limit : ℕ) → length (text y v) ≤ ada_limit → Guaranteed limit y (text y v) v
+    text-guaranteed limit short =
+        guaranteed-by-deadlines limit y (text y v) v (ranked-guaranteed x bytes reads met ps (deadline-ranking (flat y)) v fits limit short)
 
-  pub text-accepted : length (text y v) ≤ ada_limit → Accepts (text y v) (program y)
-  text-accepted short = ranked-accepted x bytes reads met ps (deadline-ranking (flat y)) v fits short
+    pub text-accepted : length (text y v) ≤ ada_limit → Accepts (text y v) (program y)
+    text-accepted short = ranked-accepted x bytes reads met ps (deadline-ranking (flat y)) v fits short

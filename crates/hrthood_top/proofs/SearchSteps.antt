@@ -47,27 +47,6 @@ small-by f o ps sound order e =
     let P : List ℕ → Type 0 = λ qs. Each (λ n. n ≤ 31) qs in
     subst P (sym e) (each-small o (range_with_len 0 (length f.threads)) (order-few f sound o order))
 
--- what was found is the table by the order
-pub table-by : (f : Flat) (o ps : List ℕ) (rows : List ThreadRow) → IsOrder f o → ps ≡ priorities_by f o → rows ≡ rows_by f o
-    → ◌≡◌ {A = ThreadTable} (record { rows = rows; places = o }) (table_for f ps)
-table-by f o ps rows order e h =
-    let T : List ThreadRow → List ℕ → ThreadTable = λ rs qs. record { rows = rs; places = qs } in
-    ap (λ rs. T rs o) h ∙ ap (λ qs. T (rows_by f o) qs) (sym (places-are f o order)) ∙ ap (table_for f) (sym e)
-
--- and these are the ceilings by it
-pub ranks-by : (f : Flat) (o ps shared obcs : List ℕ) → ps ≡ priorities_by f o → shared ≡ (ranks_by f o).shared → obcs ≡ (ranks_by f o).obcs
-    → ◌≡◌ {A = Ranks} (record { threads = ps; shared = shared; obcs = obcs }) (ranks_for f ps)
-ranks-by f o ps shared obcs e g h =
-    let R : List ℕ → List ℕ → List ℕ → Ranks = λ a b c. record { threads = a; shared = b; obcs = c } in
-    ap (λ b. R ps b obcs) g ∙ ap (λ c. R ps (ranks_by f o).shared c) h ∙ ap (λ qs. R qs (ranks_by f o).shared (ranks_by f o).obcs) e
-    ∙ ap (ranks_for f) (sym e)
-
--- the priorities that are worked out are those by the order
-pub priorities-are : (f : Flat) (o slice : List ℕ) (count : ℕ) (ps : List ℕ) → slice ≡ o → count ≡ length f.threads
-    → ps ≡ map (priority_in slice) (range_with_len 0 count) → ps ≡ priorities_by f o
-priorities-are f o slice count ps same long e =
-    e ∙ ap (λ s. map (priority_in s) (range_with_len 0 count)) same ∙ ap (λ n. map (priority_in o) (range_with_len 0 n)) long
-
 -- what is reported are the lines for the order
 pub told-by : (first : ℕ) (f : Flat) (o ps : List ℕ) (v u : List Bound) (ns ms : List NamedBound) (cs ds : List CeilingRow) → ps ≡ priorities_by f o
     → u ≡ v → ns ≡ named_bounds_by first f ps u → ms ≡ ns → cs ≡ ceiling_rows_by first f ps → ds ≡ cs → report ms ds ≡ report_by first f o v

@@ -42,7 +42,8 @@ use Rattle.law_chains.specs.Chains.{ChainResponds, total}
 use Rattle.law_designs.proofs.Shared.PriorityLists.{entries, ranked_entry, row_entry, in_order, rows-are}
 use Rattle.law_designs.proofs.Shared.ReadablePrograms.{program-readable}
 use Rattle.law_designs.proofs.Shared.SoundDesigns.{flat-sound, flat-spaced}
-use Rattle.law_designs.proofs.Shared.TabledPrograms.{has-at, flat-tabled, responses-are}
+use Rattle.law_designs.proofs.Shared.Lists.{has-at}
+use Rattle.law_designs.proofs.Shared.TabledPrograms.{flat-tabled, responses-are}
 use Rattle.law_designs.proofs.Shared.TableRanges.{sound-table}
 use Rattle.law_responses.specs.Using.{UsesAtMost}
 use Rattle.law_responses.proofs.Shared.CostLaw.{tasks-keep-to-costs}

@@ -15,3 +15,4 @@ pub mod ObjectMentions
 pub mod UnitObjects
 pub mod NamesRight
 pub mod Shared
+mod RankingExamples

@@ -15,6 +15,7 @@ pub mod ProgramTasks
 pub mod ProperProgram
 pub mod ProperTicks
 pub mod RankRanges
+pub mod RankedPrograms
 pub mod ReadablePrograms
 pub mod Resolving
 pub mod Served

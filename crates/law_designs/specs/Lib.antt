@@ -1,2 +1,3 @@
 pub mod Laws
+pub mod Rankings
 pub mod TabledDesigns

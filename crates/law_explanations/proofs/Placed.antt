@@ -8,7 +8,7 @@ use Rattle.rt_response.specs.declared.rows.ThreadRow.{ThreadRow}
 use Rattle.analysis.specs.Ceilings.{numbered}
 use Rattle.analysis.specs.Tables.{downwards, table}
 use Rattle.law_designs.proofs.Shared.TableRanges.{count-down}
-use Rattle.law_designs.proofs.Shared.TabledPrograms.{has-at}
+use Rattle.law_designs.proofs.Shared.Lists.{has-at}
 use Rattle.law_orders.proofs.Shared.DeadlineOrders.{order-count}
 use Rattle.design_bounds.proofs.Shared.TablePlaces.{places-stand, rows-long}
 use Rattle.late_response.specs.declared.reach.Reach.{Reach}

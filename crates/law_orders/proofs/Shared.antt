@@ -7,6 +7,7 @@ pub mod LevelBlocking
 pub mod Obstacles
 pub mod OrderBlocking
 pub mod OrderPlaces
+pub mod OrderRankings
 pub mod OrderRows
 pub mod OrderSums
 pub mod OrderTables

@@ -5,6 +5,7 @@ use Rattle.ods_tree.specs.Flats.{Flat}
 use Rattle.analysis.specs.Sound.{IsSound}
 use Rattle.analysis.specs.Priorities.{priorities_of}
 use Rattle.analysis.specs.Tables.{table}
+use Rattle.law_designs.specs.Rankings.{IsRanking}
 use Rattle.law_orders.specs.Orders.{AllExternal, IsOrder, Passes, priorities_by, has_place, CanBeLast, IsFilled, IsStuck, IsObstacle}
 
 -- a thread that can be last of some threads can be last of any of these
@@ -40,3 +41,7 @@ DeadlineOrdersAreFound =
 abbrev pub LeftThreadsAreOne : Type 0
 LeftThreadsAreOne =
     (f : Flat) (a b : List ℕ) (i j : ℕ) → IsSound f → IsStuck f a i → IsStuck f b j → (k : ℕ) → has_place (take i a) k ≡ has_place (take j b) k
+
+-- the priorities by an order are a ranking
+abbrev pub OrdersAreRankings : Type 0
+OrdersAreRankings = (f : Flat) (order : List ℕ) → IsOrder f order → IsRanking f (priorities_by f order)

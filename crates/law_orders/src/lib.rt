@@ -22,9 +22,10 @@
 //! - `OrderBlocking`: the blocking of a thread by an order is that of the last of the threads that aren't below it.
 //! - `OrderPlaces`: orders by their places: each thread stands in an order once, and its priority counts the places from its own to the
 //!   end.
+//! - `OrderRankings`: the priorities by an order are a ranking, and what is worked out by it is its table and its ceilings.
 //! - `OrderRows`: the table of an order: its rows stand in the order's places.
 //! - `OrderSums`: what the threads above a place of an order take of a window, over its rows.
-//! - `OrderTables`: the table of an order is in its ranges.
+//! - `OrderTables`: the table of an order is in its ranges, and so are its rows by themselves where no thread starts another.
 //! - `Passing`: an order passes exactly where each thread can be last of those that aren't below it.
 //! - `Permutations`: different places below a number, as many as that, are all places below it in some order.
 //! - `SamePlaces`: whether a thread can be last of some threads depends on which they are alone.
@@ -32,7 +33,7 @@
 #![tactic(auto)]
 
 ghost use Rattle.law_orders.specs.Laws.{DeadlineOrdersAreFound, FewerAboveIsNoWorse, LeftThreadsAreOne, ObstaclesRefuse, OrdersPassByLasts};
-ghost use Rattle.law_orders.specs.Laws.{PassingOrdersHaveLasts};
+ghost use Rattle.law_orders.specs.Laws.{PassingOrdersHaveLasts, OrdersAreRankings};
 
 /// A thread that can be last of some threads can be last of fewer, where the flat design is sound.
 pub fn fewer_above_is_no_worse()
@@ -72,4 +73,11 @@ pub fn deadline_orders_are_found()
 /// So the threads that show that no order passes are one answer.
 pub fn left_threads_are_one()
     ensures { LeftThreadsAreOne }
+{}
+
+/// The priorities by an order are a ranking of the threads: from 1 to the number of threads, each given once.
+///
+/// So what holds of a design's program by any ranking (`law_designs`) holds by any order.
+pub fn orders_are_rankings()
+    ensures { OrdersAreRankings }
 {}

@@ -2,6 +2,7 @@
 pub mod Bounded
 pub mod DesignLaw
 pub mod KeptAccepted
+pub mod RankedRuns
 pub mod Worked
 pub mod WorkedBounds
 pub mod Chained

@@ -3,7 +3,8 @@
 //!
 //! It joins the laws of whole runs (`law_written`), of releases (`law_releases`) and of responses (`law_responses`), first for any program
 //! whose tasks all stand in a table that fits, and then for the program of a design (`law_designs`). `designs_are_right` is the heart of
-//! the guarantee: it holds of every design that meets the rules and has bounds.
+//! the guarantee: it holds of every design that meets the rules and has bounds. It holds by deadline-monotonic priorities since it holds by
+//! every ranking of the threads by which the design has bounds (`ranked_designs_are_right`).
 //!
 //! Other crates may cite these proofs of it (`proofs/Shared`):
 //!
@@ -14,6 +15,8 @@
 //!   tokens is guaranteed.
 //! - `KeptAccepted`: arrivals that keep the separations of a program's software are accepted for the program: a name of an arrival is that
 //!   of one unit, since no unit has the empty name.
+//! - `RankedRuns`: the same by any ranking of the design's threads: every run of the program by it is right, and a text with that program's
+//!   tokens is guaranteed.
 //! - `Worked`: worked examples: the premises of the law on designs can be met, so that every run of these is right.
 //! - `WorkedBounds`: a round of the response equations that the next one leaves as it is, with no value over its limit, is the least
 //!   vector that fits.
@@ -23,6 +26,7 @@ ghost use Rattle.std.specs.Prelude.{ℕ};
 ghost use Rattle.law_runs.specs.Laws.{TabledRunsAreRight, TabledTasksAreServed, AcceptedWhereKept, SoundDesignsAreRight};
 ghost use Rattle.law_runs.specs.Chains.{TabledTasksAreServedAtOnce, TabledChainsRespond, DesignsServeAtOnce, DesignChainsRespond};
 ghost use Rattle.law_runs.specs.Laws.{DesignsAreRight, TextsAreGuaranteed, ReplaysAreRight};
+ghost use Rattle.law_runs.specs.Ranked.{RankedDesignsAreRight, RankedTextsAreGuaranteed, RankedReplaysAreRight};
 
 /// Every run of a program whose tasks all stand in a table that fits is permitted by the program's texts and within its bounds.
 ///
@@ -106,4 +110,25 @@ pub fn designs_serve_at_once()
 /// The arrivals are accepted. `limit` is the farthest horizon allowed, in ticks.
 pub fn design_chains_respond()
     ensures { (limit : ℕ) → DesignChainsRespond limit }
+{}
+
+/// Every run of the program of a design by any ranking of its threads is right: for all arrivals that keep the separations, what is told is
+/// allowed by the design, and every activation whose bound by that ranking falls within the horizon ends within it.
+///
+/// The design is one that a text can have, it meets the rules, and `v` fits its table by the ranking, in ticks. Threads may start others.
+/// `limit` is the farthest horizon allowed, in ticks.
+pub fn ranked_designs_are_right()
+    ensures { (limit : ℕ) → RankedDesignsAreRight limit }
+{}
+
+/// A text with the tokens of such a design's program by any ranking, within the limit of bytes, is guaranteed for the design and the bounds by
+/// that ranking.
+pub fn ranked_texts_are_guaranteed()
+    ensures { (limit : ℕ) → RankedTextsAreGuaranteed limit }
+{}
+
+/// What is told of such a design's program by any ranking, under arrivals that are accepted for it, is allowed by the design and within the
+/// bounds by that ranking.
+pub fn ranked_replays_are_right()
+    ensures { (limit : ℕ) → RankedReplaysAreRight limit }
 {}

@@ -4,3 +4,4 @@ pub mod LegibleObjects
 pub mod LegibleTicks
 pub mod LegibleUnits
 pub mod WrittenTexts
+pub mod RankedTexts

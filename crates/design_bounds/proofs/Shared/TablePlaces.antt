@@ -17,7 +17,8 @@ use Rattle.analysis.specs.Priorities.{priorities_of}
 use Rattle.analysis.specs.Tables.{ThreadTable, downwards, row_at, row_of, table}
 use Rattle.law_calls.proofs.Shared.Places.{all-at}
 use Rattle.law_designs.proofs.Shared.PriorityLists.{position-stands}
-use Rattle.law_designs.proofs.Shared.TabledPrograms.{has-at, long}
+use Rattle.law_designs.proofs.Shared.Lists.{has-at}
+use Rattle.law_designs.proofs.Shared.TabledPrograms.{long}
 use Rattle.design_bounds.specs.Rows.{name_of_row}
 
 -- the values that a list gives have what each of them has

@@ -40,7 +40,7 @@ use Rattle.law_texts.proofs.Shared.LegibleObjects.{IsLegibleObject, objects-legi
 use Rattle.law_texts.proofs.Shared.LegibleTicks.{legible-in-ticks}
 use Rattle.law_texts.proofs.Shared.LegibleDesigns.{number_below, costs-read, thread-named, unit-read}
 use Rattle.law_texts.proofs.Shared.LegibleUnits.{IsLegibleUnit, program-legible}
-use Rattle.law_texts.proofs.Shared.WrittenTexts.{bounds-read, ticked-name, period-in}
+use Rattle.law_texts.proofs.Shared.RankedTexts.{bounds-read, ticked-name, period-in}
 use Rattle.background_designs.specs.Clients.{is_client_name}
 use Rattle.background_designs.specs.HardParts.{hard_part}
 use Rattle.background_designs.specs.Refusals.{IsBackgroundDesign, Hard, Requests}

@@ -46,8 +46,8 @@ use Rattle.law_designs.proofs.Shared.SoundDesigns.{flat-sound}
 use Rattle.law_designs.proofs.Shared.ObjectRules.{nothing_first}
 use Rattle.law_designs.proofs.Shared.ProperTicks.{proper-in-ticks}
 use Rattle.law_designs.proofs.Shared.PriorityLists.{ranked_entry}
-use Rattle.law_designs.proofs.Shared.TabledPrograms.{long, has-at}
-use Rattle.law_designs.proofs.Shared.Lists.{from-map, named-from}
+use Rattle.law_designs.proofs.Shared.TabledPrograms.{long}
+use Rattle.law_designs.proofs.Shared.Lists.{from-map, named-from, has-at}
 use Rattle.law_calls.proofs.Shared.Lists.{in-filter, in-map, each-in, place-of}
 use Rattle.law_calls.proofs.Shared.Places.{map-at, all-at}
 use Rattle.std.proofs.lemmas.Option.{slice_get_within}

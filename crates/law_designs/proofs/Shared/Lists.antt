@@ -1,6 +1,6 @@
 -- What stands in a list that is made of others, what tests and first finds say of it, and names that differ.
 use Rattle.std.proofs.Common.{◌≡◌, ℕ, zero, suc, ◌+◌, take, slice_get, Bool, true, false, not, ◌&&◌, List, [], ◌∷◌, ◌++◌, map, filter_map, find}
-use Rattle.std.proofs.Common.{Option, Some, None, refl, sym, ap, subst, ◌∙◌, inl, inr, ◌⊎◌, if◌then◌else◌}
+use Rattle.std.proofs.Common.{Option, Some, None, length, ◌<◌, arith, refl, sym, ap, subst, ◌∙◌, inl, inr, ◌⊎◌, if◌then◌else◌}
 use Rattle.std.specs.List.{list_any, list_all, cons_option, enumerate_from}
 use Rattle.std.proofs.lemmas.Bool.{and_parts, false_from_ne_true, not-true}
 use Rattle.seq_tree.specs.Names.{Name, same_name, is_named, are_distinct}
@@ -174,3 +174,9 @@ key-fresh key (x ∷ xs) (suc place) a d e (inl s) =
     (subst P (sym s) (in-map key a xs (at-in xs place a e)))
 key-fresh key (x ∷ xs) (suc place) a d e (inr h)
     = key-fresh key xs place a (and_parts (not (is_named (map key xs) (key x))) (are_distinct (map key xs)) d).1 e h
+
+-- what stands at a place within a list
+pub has-at : {A : Type 0} (xs : List A) (i : ℕ) → i < length xs → (x : A) × (slice_get xs i ≡ Some x)
+has-at [] i h = absurd (omega (arith, h))
+has-at (x ∷ xs) zero h = (x, refl)
+has-at (x ∷ xs) (suc i) h = has-at xs i (omega (arith, h))

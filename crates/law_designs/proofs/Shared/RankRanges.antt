@@ -1,9 +1,8 @@
--- The priorities and ceilings of a design, as they are written, are 1 to 60, and no thread is above its control structure's ceiling.
+-- The priorities and ceilings of a design by any ranking, as they are written, are 1 to 60, and no thread is above its control structure's ceiling.
 use Rattle.std.proofs.Common.{◌≡◌, ℕ, zero, suc, ◌+◌, ◌-◌, ◌≤◌, Bool, true, false, not, ◌&&◌, ◌||◌, List, [], ◌∷◌, map, filter, zip, length, max}
 use Rattle.std.proofs.Common.{min, nat_lt, nat_le, Option, Some, None, option_to_list, option_and_then, refl, sym, ap, subst, ◌∙◌, arith}
 use Rattle.std.proofs.Common.{le_trans, inl, inr}
 use Rattle.analysis.specs.Starts.{calls_object}
-use Rattle.std.proofs.lemmas.List.{length-map}
 use Rattle.std.proofs.lemmas.Bool.{and_parts}
 use Rattle.seq_tree.specs.Names.{Name}
 use Rattle.ods_tree.specs.Designs.{Design}
@@ -27,22 +26,19 @@ use Rattle.law_designs.proofs.Shared.ObjectRules.{none_listed, nothing_first, th
 use Rattle.law_designs.proofs.Shared.Units.{from-zip}
 use Rattle.law_designs.proofs.WellFormed.{threads-at-most}
 use Rattle.law_designs.proofs.Shared.ProgramRanges.{AreRanked}
-use Rattle.law_designs.proofs.Shared.PriorityOrders.{priority-at}
+use Rattle.law_designs.specs.Rankings.{IsRanking, stated_by}
+use Rattle.law_designs.proofs.Shared.PriorityPlaces.{deadline-ranking}
 use Rattle.law_calls.proofs.Shared.Facts.{same-self}
 use Rattle.law_designs.proofs.Shared.Greatest.{at-least, at-most, fold-most}
 use Rattle.law_calls.proofs.Shared.Lists.{in-map, filter-in, in-filter, IsIn, place-of}
 
+ranked-range : (f : Flat) (ps : List ℕ) → IsRanking f ps → (p : ℕ) → IsIn p ps → (1 ≤ p) × (p ≤ length f.threads)
+ranked-range f ps ranking p h = let k = place-of p ps h in ranking.range k.0 p k.1
+
 pub priority-range : (f : Flat) (p : ℕ) → IsIn p (priorities_of f) → (1 ≤ p) × (p ≤ length f.threads)
-priority-range f p h =
-    let k = place-of p (priorities_of f) h in
-    let r = priority-at (map (λ t. t.deadline) f.threads) k.0 p k.1 in
-    let e = length-map f.threads (λ (t : Thread). t.deadline) in
-    (r.0, omega (arith, r.1, e))
+priority-range f = ranked-range f (priorities_of f) (deadline-ranking f)
 
-module _ (f : Flat) where
-  abbrev ps : List ℕ
-  ps = priorities_of f
-
+module _ (f : Flat) (ps : List ℕ) (ranking : IsRanking f ps) where
   abbrev most : ℕ
   most = max 1 (length f.threads)
 
@@ -51,7 +47,7 @@ module _ (f : Flat) where
     at-least 1 (map (λ (u : Thread × ℕ). u.1) (filter (λ (u : Thread × ℕ). uses_object name u.0) (zip f.threads ps))),
     fold-most 1 most (map (λ (u : Thread × ℕ). u.1) (filter (λ (u : Thread × ℕ). uses_object name u.0) (zip f.threads ps))) (omega arith) (λ n h.
         let r = from-map (λ (u : Thread × ℕ). u.1) (filter (λ (u : Thread × ℕ). uses_object name u.0) (zip f.threads ps)) n h in
-        let q = priority-range f r.0.1
+        let q = ranked-range f ps ranking r.0.1
         (from-zip f.threads ps r.0 (in-filter (λ (u : Thread × ℕ). uses_object name u.0) r.0 (zip f.threads ps) r.1).0).1 in
         let e = r.2 in
         omega (arith, q.1, e)),
@@ -66,8 +62,8 @@ module _ (f : Flat) where
       let q = within-range d r.0.name in
       let e = r.2 in omega (arith, q, e))
 
-  pub ceiling-range : (name : Name) → (1 ≤ ceiling f ps name) × (ceiling f ps name ≤ most)
-  ceiling-range name = (le_trans (user-range name).0 (ceiling-user f ps name), within-range (length f.shared) name)
+  pub ranked-ceiling-range : (name : Name) → (1 ≤ ceiling f ps name) × (ceiling f ps name ≤ most)
+  ranked-ceiling-range name = (le_trans (user-range name).0 (ceiling-user f ps name), within-range (length f.shared) name)
 
   own-priority : (t : Thread) (q : ℕ) → IsIn (t, q) (zip f.threads ps) → q ≤ ceiling f ps t.name
   own-priority t q h =
@@ -76,6 +72,9 @@ module _ (f : Flat) where
       (in-map (λ (u : Thread × ℕ). u.1) (t, q) (filter (λ (u : Thread × ℕ). uses_object t.name u.0) (zip f.threads ps))
       (filter-in (λ (u : Thread × ℕ). uses_object t.name u.0) (t, q) (zip f.threads ps) h mine)) in
       le_trans a (ceiling-user f ps t.name)
+
+pub ceiling-range : (f : Flat) (name : Name) → (1 ≤ ceiling f (priorities_of f) name) × (ceiling f (priorities_of f) name ≤ max 1 (length f.threads))
+ceiling-range f = ranked-ceiling-range f (priorities_of f) (deadline-ranking f)
 
 -- pairs with what is computed of the first
 zip-computed : {A : Type 0} (k : A → ℕ) (up : ℕ → ℕ) (xs : List A) (a : A) (n : ℕ) → IsIn (a, n) (zip xs (map up (map k xs))) → n ≡ up (k a)
@@ -134,31 +133,35 @@ module _ (written x : Design) (met : AreMet written x) (same : written.version �
       let b = limited (stated_priorities x) (length (thread_objects x)) priorities-stated (thread-count written x met) in
       omega (arith, a, b)
 
-  -- the ranks of a design are in their ranges
-  pub stated-ranked : AreRanked (flat x) (stated_ranks x)
-  stated-ranked = record {
+  -- the ranks of a design by a ranking are in their ranges
+  pub ranked-stated : (ps : List ℕ) → IsRanking (flat x) ps → AreRanked (flat x) (stated_by x ps)
+  ranked-stated ps ranking = record {
     shared = λ g c h.
-        let e = zip-computed (λ (g : Guarded). ceiling (flat x) (priorities_of (flat x)) g.name) (λ n. n + (first_priority x - 1))
+        let e = zip-computed (λ (g : Guarded). ceiling (flat x) ps g.name) (λ n. n + (first_priority x - 1))
         (flat x).shared g c h in
-        let q = ceiling-range (flat x) g.name in
+        let q = ranked-ceiling-range (flat x) ps ranking g.name in
         let k = room in
         ap (is_outside 1 60) e ∙ written-range _ (first_priority x - 1) q.0 (omega (arith, q.1, k));
     threads = λ t n h.
-        let z = zip-both (λ (t : Thread). control_ceiling (flat x) (priorities_of (flat x)) t.name t.timing) (λ n. n + (first_priority x - 1))
-        (threads x) (priorities_of (flat x)) t n h in
-        let q = priority-range (flat x) z.0 (from-zip (threads x) (priorities_of (flat x)) (t, z.0) z.1).1 in
+        let z = zip-both (λ (t : Thread). control_ceiling (flat x) ps t.name t.timing) (λ n. n + (first_priority x - 1))
+        (threads x) ps t n h in
+        let q = ranked-range (flat x) ps ranking z.0 (from-zip (threads x) ps (t, z.0) z.1).1 in
         let k = room in
         ap (is_outside 1 60) z.2 ∙ written-range z.0 (first_priority x - 1) q.0 (omega (arith, q.1, k));
     obcs = λ t n op separation jitter h e.
-        let z = zip-both (λ (t : Thread). control_ceiling (flat x) (priorities_of (flat x)) t.name t.timing) (λ n. n + (first_priority x - 1))
-        (threads x) (priorities_of (flat x)) t n h in
-        let c : n.1 ≡ ceiling (flat x) (priorities_of (flat x)) t.name + (first_priority x - 1) =
-        z.3 ∙ ap (λ u. control_ceiling (flat x) (priorities_of (flat x)) t.name u + (first_priority x - 1)) e in
-        let q = ceiling-range (flat x) t.name in
-        let o = own-priority (flat x) t z.0 z.1 in
+        let z = zip-both (λ (t : Thread). control_ceiling (flat x) ps t.name t.timing) (λ n. n + (first_priority x - 1))
+        (threads x) ps t n h in
+        let c : n.1 ≡ ceiling (flat x) ps t.name + (first_priority x - 1) =
+        z.3 ∙ ap (λ u. control_ceiling (flat x) ps t.name u + (first_priority x - 1)) e in
+        let q = ranked-ceiling-range (flat x) ps ranking t.name in
+        let o = own-priority (flat x) ps ranking t z.0 z.1 in
         let k = room in (
           ap (is_outside 1 60) c ∙ written-range _ (first_priority x - 1) q.0 (omega (arith, q.1, k)),
-          ap (λ m. nat_lt m n.0) c ∙ ap (λ m. nat_lt (ceiling (flat x) (priorities_of (flat x)) t.name + (first_priority x - 1))
-              m) z.2 ∙ not-below (ceiling (flat x) (priorities_of (flat x)) t.name) z.0 (first_priority x - 1) o,
+          ap (λ m. nat_lt m n.0) c ∙ ap (λ m. nat_lt (ceiling (flat x) ps t.name + (first_priority x - 1))
+              m) z.2 ∙ not-below (ceiling (flat x) ps t.name) z.0 (first_priority x - 1) o,
         );
   }
+
+  -- and so are those of deadline-monotonic priorities
+  pub stated-ranked : AreRanked (flat x) (stated_ranks x)
+  stated-ranked = ranked-stated (priorities_of (flat x)) (deadline-ranking (flat x))

@@ -1,5 +1,5 @@
 -- The program of a proper design that meets the rules can be read.
-use Rattle.std.proofs.Common.{◌≡◌, ◌≤◌, Bool, true, false, List, [], ◌++◌, map, filter, zip, length, Some, None, sym, ap, ◌∙◌, arith}
+use Rattle.std.proofs.Common.{◌≡◌, ◌≤◌, ℕ, Bool, true, false, List, [], ◌++◌, map, filter, zip, length, Some, None, sym, ap, ◌∙◌, arith}
 use Rattle.std.proofs.lemmas.Bool.{or_from, le-ltb}
 use Rattle.std.proofs.lemmas.List.{length-append, length-map}
 use Rattle.std.proofs.lemmas.List.Elements.{filter-append}
@@ -15,22 +15,25 @@ use Rattle.design_rules.specs.Rules as ods
 use Rattle.ada_tree.specs.Programs.{Unit, Program, is_task}
 use Rattle.ada_tree.specs.Ranges.{whole_breaks}
 use Rattle.ada_tree.specs.Rules.{Rule, Naming, Uses, Rings, Bodies, Ranges, Externals, Whole, At, UnitBreaks, WholeBreaks, MeetsRules}
+use Rattle.analysis.specs.Priorities.{priorities_of}
 use Rattle.analysis.specs.Ceilings.{Ranks}
-use Rattle.guarantee.specs.Programs.{passive_unit, shared_unit, thread_unit, program_for, stated_ranks, program}
+use Rattle.guarantee.specs.Programs.{passive_unit, shared_unit, thread_unit, program_for, program}
 use Rattle.guarantee.specs.MachineLaw.{IsReadable}
 use Rattle.law_designs.proofs.Shared.Lists.{from-map}
 use Rattle.law_designs.proofs.Shared.Starting.{filter-none}
 use Rattle.law_designs.proofs.Numbers.{filter-at-most}
 use Rattle.law_designs.proofs.WellFormed.{few-threads, few-entries}
 use Rattle.law_designs.proofs.Shared.Offers.{Fitting}
-use Rattle.law_designs.proofs.Shared.Units.{ranks-fit, bodies-right}
+use Rattle.law_designs.proofs.Shared.Units.{ranked-fit, bodies-right}
 use Rattle.law_designs.proofs.Shared.ProperProgram.{program-proper}
 use Rattle.law_designs.proofs.Shared.ProperTicks.{proper-in-ticks}
 use Rattle.law_designs.proofs.ProgramUses.{uses-right, rings-right}
 use Rattle.law_designs.proofs.Externals.{externals-right}
 use Rattle.law_designs.proofs.NamesRight.{names-right}
 use Rattle.law_designs.proofs.Shared.ProgramRanges.{AreRanked, ranges-right, costs-fit}
-use Rattle.law_designs.proofs.Shared.RankRanges.{stated-ranked}
+use Rattle.law_designs.proofs.Shared.RankRanges.{ranked-stated}
+use Rattle.law_designs.proofs.Shared.PriorityPlaces.{deadline-ranking}
+use Rattle.law_designs.specs.Rankings.{IsRanking, stated_by, program_by}
 use Rattle.law_calls.proofs.Shared.Lists.{at-in, IsIn}
 use Rattle.std.proofs.lemmas.Slice.Zip.{length-zip}
 
@@ -114,9 +117,16 @@ module _ (written x : Design) (met : ods.AreMet written x) (r : Ranks) where
       unit Ranges h = let z : true ≡ false = sym h ∙ ranges-right written x met r fit ranked u among in cc
       unit Externals h = let z : true ≡ false = sym h ∙ externals-right written x met r fit u among in cc
 
--- a design's program can be read
-pub program-readable : (x : Design) → IsProperDesign (within_limits is_design_name) x → ods.MeetsRules x → IsReadable (program (in_ticks x))
-program-readable x proper met = (
-  program-proper x (in_ticks x) met (proper-in-ticks x proper) (stated_ranks (in_ticks x)),
-  rules-met x (in_ticks x) met (stated_ranks (in_ticks x)) (ranks-fit (in_ticks x)) (stated-ranked x (in_ticks x) met (sym (ticks-version x))),
+-- a design's program by a ranking can be read
+pub ranked-readable : (x : Design) (ps : List ℕ) → IsProperDesign (within_limits is_design_name) x → ods.MeetsRules x
+    → IsRanking (flat (in_ticks x)) ps → IsReadable (program_by (in_ticks x) ps)
+ranked-readable x ps proper met ranking = (
+  program-proper x (in_ticks x) met (proper-in-ticks x proper) (stated_by (in_ticks x) ps),
+  rules-met x (in_ticks x) met (stated_by (in_ticks x) ps) (ranked-fit (in_ticks x) ps ranking)
+      (ranked-stated x (in_ticks x) met (sym (ticks-version x)) ps ranking),
 )
+
+-- and so can its program
+pub program-readable : (x : Design) → IsProperDesign (within_limits is_design_name) x → ods.MeetsRules x → IsReadable (program (in_ticks x))
+program-readable x proper met =
+    ranked-readable x (priorities_of (flat (in_ticks x))) proper met (deadline-ranking (flat (in_ticks x)))

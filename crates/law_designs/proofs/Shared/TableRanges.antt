@@ -1,4 +1,4 @@
--- The table of a sound flat design is in its ranges.
+-- The table of a sound flat design is in its ranges, by any ranking.
 use Rattle.std.specs.Prelude.{◌≡◌, ℕ, zero, suc, ◌-◌, ◌≤◌, ◌<◌, nat_le, nat_lt, true, List, [], ◌∷◌, map, filter_map, length, position}
 use Rattle.std.specs.Prelude.{slice_get, Option, Some, None, option_map, option_and_then, refl}
 use Rattle.std.specs.List.{cons_option}
@@ -15,10 +15,12 @@ use Rattle.rt_response.specs.Tables as tables
 use Rattle.analysis.specs.Sound.{IsSound}
 use Rattle.analysis.specs.Starts.{can_request}
 use Rattle.analysis.specs.Priorities.{priorities_of}
-use Rattle.analysis.specs.Tables.{downwards, starter_of, jitter_of, table, activation_cost}
+use Rattle.analysis.specs.Tables.{downwards, starter_of, jitter_of, table_for, table, activation_cost}
 use Rattle.law_designs.proofs.Shared.PriorityLists.{Entry, entry_by, entries, row_entry, Stands, entries-stand, rows-are, position-is}
-use Rattle.law_designs.proofs.Shared.PriorityPlaces.{entry-at}
-use Rattle.law_designs.proofs.Shared.TabledPrograms.{has-at, long, in-range, alone, all-entries}
+use Rattle.law_designs.specs.Rankings.{IsRanking}
+use Rattle.law_designs.proofs.Shared.Lists.{has-at}
+use Rattle.law_designs.proofs.Shared.PriorityPlaces.{deadline-ranking, entry-at}
+use Rattle.law_designs.proofs.Shared.RankedPrograms.{all-entries}
 use Rattle.law_designs.proofs.Shared.CostRanges.{all-each, within-true, finish-some, blocking-cheap}
 use Rattle.std.proofs.lemmas.Bool.{and_parts, leb-true}
 use Rattle.law_calls.proofs.Shared.Places.{all-at}
@@ -52,26 +54,23 @@ timed (timing.Sporadic op separation (Some jitter)) e =
     let most = (within-true 1 tick_limit separation parts.0).1 in
     (most, (let less = small jitter separation parts.1 in omega (arith, most, less)))
 
-module _ (f : Flat) (sound : IsSound f) where
-  abbrev ps : List ℕ
-  ps = priorities_of f
-
+module _ (f : Flat) (sound : IsSound f) (ps : List ℕ) (ranking : IsRanking f ps) where
   abbrev es : List Entry
   es = entries f ps (downwards (length ps))
 
   count : length es ≤ 30
-  count = omega (arith, few (entry_by f ps) (downwards (length ps)), count-down (length ps), long f 1, sound.formed.thread_count)
+  count = omega (arith, few (entry_by f ps) (downwards (length ps)), count-down (length ps), ranking.count, sound.formed.thread_count)
 
   -- a thread with a priority is among the entries
   place : (at q : ℕ) → slice_get ps at ≡ Some q → length ps - q < length es
   place at q e =
-      let range = in-range f 1 at q e in
+      let range = ranking.range at q e in
       let inside : at < length ps = slice_get_within ps at q e in
-      let thread = has-at f.threads at (omega (arith, inside, long f 1)) in
+      let thread = has-at f.threads at (omega (arith, inside, ranking.count)) in
       let entry : entry_by f ps q ≡ Some (thread.0, q) =
-      ap (option_and_then (λ x. option_map (λ t. let z : Entry = (t, q) in z) (slice_get f.threads x))) (position-is ps q at (alone f 1) e) ∙ ap
+      ap (option_and_then (λ x. option_map (λ t. let z : Entry = (t, q) in z) (slice_get f.threads x))) (position-is ps q at ranking.once e) ∙ ap
       (option_map (λ t. let z : Entry = (t, q) in z)) thread.1 in
-      slice_get_within es (length ps - q) (thread.0, q) (entry-at f ps (length ps) (all-entries f 1) q (thread.0, q) range.0 range.1 entry)
+      slice_get_within es (length ps - q) (thread.0, q) (entry-at f ps (length ps) (all-entries f 1 ps ranking) q (thread.0, q) range.0 (omega (arith, range.1, ranking.count)) entry)
 
   row-in : (o : Option ℕ) → tables.IsStarter (length es) (option_and_then (λ at. option_map (λ p. length ps - p) (slice_get ps at)) o)
   row-in None = tt
@@ -119,6 +118,10 @@ module _ (f : Flat) (sound : IsSound f) where
             (entries-stand f ps (downwards (length ps))));
       }
 
-  -- the table of a sound flat design is one
-  pub sound-table : IsTable (table f).rows
-  sound-table = subst IsTable (sym (rows-are f ps)) listed
+  -- the table of a sound flat design by a ranking is one
+  pub ranked-table : IsTable (table_for f ps).rows
+  ranked-table = subst IsTable (sym (rows-are f ps)) listed
+
+-- and so is that of deadline-monotonic priorities
+pub sound-table : (f : Flat) → IsSound f → IsTable (table f).rows
+sound-table f sound = ranked-table f sound (priorities_of f) (deadline-ranking f)

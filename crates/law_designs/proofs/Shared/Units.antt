@@ -1,8 +1,6 @@
 -- The units of the program of a flat design, and that no body of one has a fault.
 use Rattle.std.proofs.Common.{◌≡◌, ℕ, Bool, true, false, not, ◌&&◌, List, [], ◌∷◌, ◌++◌, map, zip, None, refl, sym, ap, subst, ◌∙◌, inl, inr, ◌⊎◌}
-use Rattle.std.proofs.lemmas.List.FromFn.{length-enumerate_from}
 use Rattle.std.proofs.lemmas.List.{length-map}
-use Rattle.std.specs.List.{enumerate_from}
 use Rattle.seq_tree.specs.Operations.{Operation, out_names}
 use Rattle.seq_tree.specs.Faults.{Scope, block_fault}
 use Rattle.seq_tree.specs.declared.tree.Param.{Param}
@@ -15,12 +13,14 @@ use Rattle.ods_tree.specs.declared.design.Kind.TheVariants as kind
 use Rattle.ada_tree.specs.Programs.{Form, Unit, Program, Passive, Shared}
 use Rattle.ada_tree.specs.Bodies.{Body, op_body, scope, bodies_fault, unit_fault, offers}
 use Rattle.analysis.specs.Priorities.{priorities_of}
-use Rattle.analysis.specs.Ceilings.{Ranks, ranks}
+use Rattle.analysis.specs.Ceilings.{Ranks, ranks_for}
 use Rattle.guarantee.specs.Programs.{passive_unit, shared_unit, thread_unit, thread_form, program_for, stated_ranks}
 use Rattle.design_rules.specs.Bodies.{request_params}
 use Rattle.design_rules.specs.Bodies as ods
 use Rattle.design_rules.specs.Rules.{AreMet}
+use Rattle.law_designs.specs.Rankings.{IsRanking, stated_by}
 use Rattle.law_designs.proofs.Shared.Lists.{in-cases, from-map}
+use Rattle.law_designs.proofs.Shared.PriorityPlaces.{deadline-ranking}
 use Rattle.law_designs.proofs.Renaming.{or_else-from, with_calls}
 use Rattle.law_designs.proofs.Shared.Flattened.{library_by, guarded_by, library-from, guarded-from, ThreadFrom, thread-from, TimingOf, OfCyclic}
 use Rattle.law_designs.proofs.Shared.Flattened.{OfSporadic, timing-of}
@@ -29,16 +29,19 @@ use Rattle.law_designs.proofs.Shared.Blocks.{kept}
 use Rattle.law_designs.proofs.Shared.Offers.{Fitting, body-faultless, thread-faultless}
 use Rattle.law_calls.proofs.Shared.Lists.{IsIn}
 
--- the ranks of a design have a number for each entry
-pub ranks-fit : (x : Design) → Fitting (flat x) (stated_ranks x)
-ranks-fit x =
-    let f : Flat = flat x in
+-- the ranks of a design by a ranking have a number for each entry
+pub ranked-fit : (x : Design) (ps : List ℕ) → IsRanking (flat x) ps → Fitting (flat x) (stated_by x ps)
+ranked-fit x ps ranking =
+    let r : Ranks = ranks_for (flat x) ps in
     record {
-      shared = length-map (ranks f).shared _ ∙ length-map f.shared _;
-      threads = length-map (priorities_of f) _ ∙ (length-map (enumerate_from 0 (map (λ t. t.deadline) f.threads)) _ ∙ length-enumerate_from 0
-          (map (λ t. t.deadline) f.threads) ∙ length-map f.threads _);
-      obcs = length-map (ranks f).obcs _ ∙ length-map f.threads _;
+      shared = length-map r.shared _ ∙ length-map (flat x).shared _;
+      threads = length-map ps _ ∙ ranking.count;
+      obcs = length-map r.obcs _ ∙ length-map (flat x).threads _;
     }
+
+-- and so have those of deadline-monotonic priorities
+pub ranks-fit : (x : Design) → Fitting (flat x) (stated_ranks x)
+ranks-fit x = ranked-fit x (priorities_of (flat x)) (deadline-ranking (flat x))
 
 -- what stands in a list of pairs stands in both
 pub from-zip : {A B : Type 0} (xs : List A) (ys : List B) (p : A × B) → IsIn p (zip xs ys) → IsIn p.0 xs × IsIn p.1 ys

@@ -7,7 +7,7 @@ use Rattle.ods_tree.specs.Flats.{Flat}
 use Rattle.analysis.specs.Priorities.{priorities_of}
 use Rattle.analysis.specs.Sound.{IsSound}
 use Rattle.analysis.specs.Tables.{places_by_priority}
-use Rattle.law_designs.proofs.Shared.TabledPrograms.{has-at}
+use Rattle.law_designs.proofs.Shared.Lists.{has-at}
 use Rattle.law_designs.proofs.Shared.TabledPrograms as tabled
 use Rattle.law_orders.specs.Orders.{AllExternal, IsOrder, Passes, priority_in, priorities_by, has_place, CanBeLast, IsFilled}
 use Rattle.law_orders.specs.Laws.{DeadlineOrdersAreFound}

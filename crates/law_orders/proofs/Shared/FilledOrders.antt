@@ -8,7 +8,7 @@ use Rattle.ods_tree.specs.Flats.{Flat}
 use Rattle.analysis.specs.Priorities.{priorities_of}
 use Rattle.analysis.specs.Sound.{IsSound}
 use Rattle.analysis.specs.Tables.{places_by_priority}
-use Rattle.law_designs.proofs.Shared.TabledPrograms.{has-at}
+use Rattle.law_designs.proofs.Shared.Lists.{has-at}
 use Rattle.law_orders.specs.Orders.{IsOrder, has_place, CanBeLast, IsLowest, IsFilledFrom, IsStuck}
 use Rattle.law_orders.specs.Laws.{LeftThreadsAreOne}
 use Rattle.law_orders.proofs.Shared.OrderPlaces.{order-long, order-within, order-has, order-once, place-stands, stands-place, take-at, at-take}

@@ -11,7 +11,7 @@ use Rattle.rt_response.specs.declared.rows.ThreadRow.{ThreadRow}
 use Rattle.analysis.specs.Tables.{downwards, places_by_priority, row_of, row_at}
 use Rattle.law_calls.proofs.Shared.Places.{map-at}
 use Rattle.law_designs.proofs.Shared.PriorityLists.{position-is}
-use Rattle.law_designs.proofs.Shared.TabledPrograms.{has-at}
+use Rattle.law_designs.proofs.Shared.Lists.{has-at}
 use Rattle.law_orders.specs.Orders.{IsOrder, priority_in, priorities_by, rows_by}
 use Rattle.law_orders.proofs.Shared.OrderPlaces.{AtOnce, order-long, order-within, order-has, order-once, priority-place}
 
@@ -66,7 +66,7 @@ module _ (f : Flat) (o : List ℕ) (order : IsOrder f o) where
       let z : 0 + k ≡ k = omega arith in
       map-at (priority_in o) (range_with_len 0 n) k k (range-at 0 n k h ∙ ap Some z)
 
-  at-priority : (k p : ℕ) → slice_get ps k ≡ Some p → (k < n) × (priority_in o k ≡ p)
+  pub at-priority : (k p : ℕ) → slice_get ps k ≡ Some p → (k < n) × (priority_in o k ≡ p)
   at-priority k p e =
       let inside : k < length ps = slice_get_within ps k p e in
       let less : k < n = (let q = priorities-long in omega (arith, inside, q)) in

@@ -17,7 +17,7 @@ use Rattle.law_schedules.proofs.Shared.Equations.{all_zip-at, meets-response, fi
 use Rattle.analysis.specs.Sound.{IsSound}
 use Rattle.analysis.specs.Tables.{activation_cost, jitter_of, starter_of, row_of}
 use Rattle.law_calls.proofs.Shared.Lists.{none-in, at-in}
-use Rattle.law_designs.proofs.Shared.TabledPrograms.{has-at}
+use Rattle.law_designs.proofs.Shared.Lists.{has-at}
 use Rattle.law_orders.specs.Orders.{is_internal, AllExternal, IsOrder, Passes, priority_in, priorities_by, rows_by, share, EndsLast, CanBeLast}
 use Rattle.law_orders.specs.Laws.{OrdersPassByLasts, PassingOrdersHaveLasts}
 use Rattle.law_orders.proofs.Shared.Shares.{share_at, share_of}

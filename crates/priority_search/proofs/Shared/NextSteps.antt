@@ -12,7 +12,8 @@ use Rattle.rt_response.specs.Tables.{Each, IsRow}
 use Rattle.analysis.specs.Ceilings.{Ranks, ranks}
 use Rattle.analysis.specs.Sound.{IsSound}
 use Rattle.analysis.specs.Tables.{ThreadTable, table_for}
-use Rattle.law_designs.proofs.Shared.TabledPrograms.{has-at, long}
+use Rattle.law_designs.proofs.Shared.Lists.{has-at}
+use Rattle.law_designs.proofs.Shared.TabledPrograms.{long}
 use Rattle.law_orders.specs.Orders.{AllExternal, IsOrder, priority_in, priorities_by, ranks_by, rows_by, CanBeLast, NoneIsLast}
 use Rattle.law_orders.proofs.Shared.OrderPlaces.{order-long, place-stands, take-at}
 use Rattle.law_orders.proofs.Shared.OrderRows.{rows-long}

@@ -2,7 +2,8 @@ use Rattle.std.proofs.Common.{◌≡◌, IfOk, subst, sym, ◌∙◌}
 use Rattle.std.proofs.lemmas.List.{length-map}
 use Rattle.ods_tree.specs.Trees.{flat_of, thread_of}
 use Rattle.priority_search.proofs.Shared.NextSteps.{order-few}
-use Rattle.hrthood_top.proofs.SearchSteps.{priorities-are, small-by, table-by, ranks-by, told-by}
+use Rattle.law_orders.proofs.Shared.OrderRankings.{priorities-are, table-by, ranks-by}
+use Rattle.hrthood_top.proofs.SearchSteps.{small-by, told-by}
 use Rattle.hrthood_top.proofs.search.order_lines.Goals as goal
 
 pub priorities_up_to-requires : goal.priorities_up_to-requires

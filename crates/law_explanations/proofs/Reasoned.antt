@@ -9,7 +9,7 @@ use Rattle.analysis.specs.Ceilings.{numbered}
 use Rattle.analysis.specs.Priorities.{priorities_of}
 use Rattle.analysis.specs.Tables.{downwards, places_by_priority, row_at, row_of, table}
 use Rattle.block_causes.specs.Causes.{cause}
-use Rattle.law_calls.proofs.Shared.Places.{all-at, map-at, zip-at}
+use Rattle.law_calls.proofs.Shared.Places.{all-at, map-at, same-item, zip-at}
 use Rattle.law_designs.proofs.Shared.TabledPrograms.{has-at}
 use Rattle.law_orders.proofs.Shared.DeadlineOrders.{order-at, order-count, priority-there}
 use Rattle.law_orders.proofs.Shared.OrderRows.{all-made-at}
@@ -109,7 +109,8 @@ module _ (first : ℕ) (f : Flat) (found : List Reach) (long : length found ≡ 
       zip-at (table f).places _ i order.0 _ order.1 (zip-at (table f).rows _ i _ _ row (zip-at found _ i r.0 _ r.1
       (zip-at (causes f) (numbered first (downwards (length f.threads))) i _ _ caused written))) in
       let made : reasons_at f k ≡ Some (told k u.0) = reason-made k u.0 u.1 in
-      let same : told k u.0 ≡ t = same_Some (told k u.0) t (sym (all-made-at (reasons_at f) ks told-there i k (told k u.0) known made) ∙ at) in
+      let same : told k u.0 ≡ t =
+      same-item (slice_get (reasons_of first f found) i) (told k u.0) t (all-made-at (reasons_at f) ks told-there i k (told k u.0) known made) at in
       record {
         inside = inside;
         place = order.0;

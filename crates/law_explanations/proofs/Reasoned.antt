@@ -1,13 +1,12 @@
 -- What is reported of the thread at a place of the table: it has the priority of that place, with its row, and the cause of its blocking.
-use Rattle.std.proofs.Common.{◌≡◌, ℕ, zero, suc, ◌+◌, ◌-◌, ◌<◌, List, [], ◌∷◌, length, map, zip, Option, Some, refl, sym, ap, ◌∙◌, arith}
-use Rattle.std.specs.Prelude.{filter_map, option_and_then, option_map, slice_get}
+use Rattle.std.proofs.Common.{◌≡◌, ℕ, zero, suc, ◌+◌, ◌-◌, ◌<◌, List, [], ◌∷◌, length, zip, Some, refl, sym, ap, ◌∙◌, arith}
+use Rattle.std.specs.Prelude.{option_and_then, option_map, slice_get}
 use Rattle.std.proofs.lemmas.Option.{none-some, same_Some, slice_get_within}
-use Rattle.seq_tree.specs.Lists.{Each}
 use Rattle.ods_tree.specs.Flats.{Flat, Thread}
 use Rattle.rt_response.specs.declared.rows.ThreadRow.{ThreadRow}
 use Rattle.analysis.specs.Ceilings.{numbered}
 use Rattle.analysis.specs.Priorities.{priorities_of}
-use Rattle.analysis.specs.Tables.{downwards, places_by_priority, row_at, row_of, table}
+use Rattle.analysis.specs.Tables.{downwards, row_at, row_of, table}
 use Rattle.block_causes.specs.Causes.{cause}
 use Rattle.law_calls.proofs.Shared.Places.{all-at, map-at, same-item, zip-at}
 use Rattle.law_designs.proofs.Shared.TabledPrograms.{has-at}

@@ -27,7 +27,7 @@ use Rattle.late_response.specs.declared.reach.Reach.TheVariants.{Solved}
 use Rattle.explanation.specs.declared.reasons.Reasons.{Reasons}
 use Rattle.explanation.specs.Chains.{chain_response, lowest_place, response_in}
 use Rattle.explanation.specs.Findings.{solved_of}
-use Rattle.explanation.specs.Threads.{Known, blocker_of, causes, reasons_at, reasons_of}
+use Rattle.explanation.specs.Threads.{blocker_of, causes, reasons_of}
 use Rattle.explanation.specs.Values.{value_at}
 use Rattle.law_explanations.specs.Responding.{ExplainedChainsRespond, OfNames, names_along}
 use Rattle.law_explanations.proofs.Placed.{found-long, told-reaches, zip-long}

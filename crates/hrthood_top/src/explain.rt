@@ -80,7 +80,8 @@ fn add_explained(text: &mut Vec<u8>, explanation: &Explanation) -> Result<(), No
     add_late(text, &explanation.late)?;
     add_threads(text, threads)?;
     add_chains(text, threads, explanation.chains.as_slice())?;
-    add_ceilings(text, explanation.ceilings.as_slice())
+    add_ceilings(text, explanation.ceilings.as_slice())?;
+    Ok(())
 }
 
 /// The lines of an explanation: the utilisation is the first where it is over 1000, and else the last.

@@ -265,9 +265,12 @@ def main() -> None:
         return
     is_csv = words[:1] == ['--csv']
     words = words[1:] if is_csv else words
-    names = [name.strip() for name in words[1].split('->')] if len(words) == 2 else []
-    if not names or words[0].startswith('-') or not all(re.fullmatch(r'[a-z][a-z0-9_]*', name) for name in names):
+    if len(words) != 2 or words[0].startswith('-'):
         print(__doc__, file=sys.stderr)
+        sys.exit(2)
+    names = [name.strip().lower() for name in words[1].split('->')]
+    if not all(re.fullmatch(r'[a-z][a-z0-9_]*', name) for name in names):
+        print(f'chains.py: not names of threads with -> between them: {words[1]} (chains.py [--csv] DESIGN "a -> b")', file=sys.stderr)
         sys.exit(2)
     sys.setrecursionlimit(MOST_CALLS)
     file = words[0]

@@ -67,10 +67,11 @@ def tick_of(design: str) -> int | None:
 
 def rows_of(file: str, text: str, tick: int | None) -> Dict[Tuple[str, str], Row]:
     """The times of a file, by object and operation."""
-    lines = text.splitlines()
+    lines = text.lstrip('\ufeff').splitlines()
     head = [cell.strip().lower() for cell in lines[0].split(',')] if lines else []
     if head[:2] != ['object', 'operation'] or head[2:] not in [['ticks'], *([unit] for unit in NANOSECONDS)]:
-        raise Fault(f'{file}:1: the first line is not object,operation,ticks, or with ns, us, ms or s for ticks')
+        first = lines[0].strip() if lines else ''
+        raise Fault(f'{file}:1: the first line is not object,operation,ticks, or with ns, us, ms or s for ticks: {first}'.rstrip(': '))
     if head[2] != 'ticks' and not tick:
         raise Fault(f'{file}:1: the times are in {head[2]}, and the design has no TICK')
     rows: Dict[Tuple[str, str], Row] = {}

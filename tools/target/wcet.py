@@ -124,7 +124,7 @@ def write(file: str, text: str) -> None:
     """Replaces a file by a text that the program accepts, with the rights of the file. Nothing else of its folder is changed."""
     program = os.path.abspath(os.environ.get('PROGRAM', os.path.join(TOP, 'crates', 'hrthood', 'out', 'hrthood')))
     if not os.access(program, os.X_OK):
-        raise Refused(f'there is no program {program}; tools/gate/prove_program.sh makes it')
+        raise Refused(f'there is no program {program}; tools/gate/prove_program.sh makes it, or set PROGRAM to tools/hrthood.mjs')
     real = os.path.realpath(file)
     handle, new = tempfile.mkstemp(prefix='.wcet_', dir=os.path.dirname(real))
     try:

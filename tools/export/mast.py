@@ -200,6 +200,9 @@ class System:
         self.speed = processors[0].number('speed_factor', 1)
         if not self.speed:
             raise Fault(processors[0].line, 'the speed factor is 0')
+        platform = [*processors, *self.kinds.get('scheduler', {}).values()]
+        parts = platform + [policy for one in platform if 'policy' in one.values for policy in one.elements('policy')]
+        self.overheads = sorted({name for one in parts for name in one.values if name.startswith('worst_') and one.number(name)})
         self.resources = {name: self.ceiling(one) for name, one in self.kinds.get('shared_resource', {}).items()}
         self.tasks: dict[str, Task] = {}
         for transaction in self.kinds.get('transaction', {}).values():

@@ -373,11 +373,12 @@ class ByHand(unittest.TestCase):
         with tempfile.TemporaryDirectory() as room:
             file = os.path.join(room, 'x.mast')
             with open(file, 'w', encoding='utf-8') as stream:
-                text = BY_HAND.replace('Ceiling => 2', 'Ceiling => 3')
+                text = BY_HAND.replace('Ceiling => 2', 'Ceiling => 3').replace('=> Fixed_Priority)', '=> Fixed_Priority, Worst_Switch => 1)')
                 stream.write(text.replace('Deadline => 9', 'Deadline => 12').replace('Deadline => 30', 'Deadline => 11'))
             status, out, _ = run('from_mast.py', file)
             self.assertEqual(status, 0)
-            self.assertEqual(out.splitlines()[1:3], ['-- The priorities of the file differ: by deadline the order is middle, high, low.',
+            self.assertEqual(out.splitlines()[1:4], ['-- The file has overheads, which no cost here includes: worst_switch.',
+                                                     '-- The priorities of the file differ: by deadline the order is middle, high, low.',
                                                      '-- The ceiling of r in the file is 3, and its users have priorities up to 2.'])
 
 

@@ -53,8 +53,7 @@ function tryDesign(/** @type {string} */ file) {
   judge(withoutComments(once.stdout) === formatted.stdout, `${file}: without comments it is what format writes`);
   const texts = [textOf(file), once.stdout].map((text) => commentsOf(text).map((one) => one.text).join("\n"));
   judge(texts[0] === texts[1], `${file}: the comments are the same, in order`);
-  const again = tidy(inRoom("again.design", once.stdout));
-  judge(again.stdout === once.stdout, `${file}: the result is left as it is`);
+  judge(withComments(once.stdout, formatted.stdout) === once.stdout, `${file}: the result is left as it is`);
 }
 
 function tryExamples() {
@@ -62,6 +61,8 @@ function tryExamples() {
   for (const name of names) tryDesign(join(EXAMPLES, name));
   const commented = tidy(join(EXAMPLES, "commented.design"));
   judge(commented.stdout === textOf(join(EXAMPLES, "commented_tidy.design")), "commented.design becomes commented_tidy.design");
+  const again = tidy(join(EXAMPLES, "commented_tidy.design"));
+  judge(again.stdout === commented.stdout, "commented_tidy.design is left as it is");
   console.log(`${names.length} designs of the examples`);
 }
 
@@ -122,7 +123,7 @@ function tryCases() {
     ["spaces at the end of a comment", `${HEAD}${TAIL}-- x \t \r\n`, "END d; -- x\n"],
     ["an empty comment", `${HEAD}${TAIL}\n--\n`, "END d;\n--\n"],
     ["bytes that are no UTF-8, and a no-break space", `${HEAD}${TAIL} -- \xff\xc3\xa0\n`, "END d; -- \xff\xc3\xa0\n"],
-    ["a comment before an END", HEAD + TAIL.replace("end thread", "-- x\nend thread"), "            null;\n            -- x\n         END THREAD;\n".replace(/^ {6}/gm, "   ")],
+    ["a comment before an END", HEAD + TAIL.replace("end thread", "\n-- x\nend thread"), "         null;\n         -- x\n      END THREAD;\n"],
     ["numbers with underscores and zeros", HEAD + TAIL.replace("10", "-- x\n0_1_0"), "         -- x\n         PERIOD = 10;\n"],
   ];
   for (const [what, text, wanted] of cases) {
@@ -145,7 +146,7 @@ function tryRefusals() {
   const absent = join(room, "absent.design");
   judge(same(tidy(absent), { status: 3, stdout: "", stderr: `fault reading ${absent}\n` }), "a file that is not there");
   // Indented it is longer than a design may be.
-  const deep = HEAD + TAIL.replace("null;", `${"if 1 = 1 then ".repeat(30)}${"null;".repeat(20000)}${"end if;".repeat(30)} -- x\n`);
+  const deep = HEAD + TAIL.replace("null;", `${"if 1 = 1 then ".repeat(30)}${"null;".repeat(60000)}${"end if;".repeat(30)} -- x\n`);
   const done = tidy(inRoom("deep.design", deep));
   judge(done.status === 1 && done.stdout === "" && done.stderr === "refused S3 design\n", `a result that is too long: ${done.status} ${done.stderr}`);
   for (const words of [[], ["--write"], ["--check"], ["--other", "x"], ["one", "two"], [""]]) {

@@ -16,6 +16,17 @@ export const NO_ANSWER = 125;
 /** There is no program, or no answer of it. */
 export class NoAnswer extends Error {}
 
+// The runs and the temporary folders that there are.
+/** @type {Set<any>} */
+const runs = new Set();
+/** @type {Set<string>} */
+const rooms = new Set();
+
+process.on("exit", () => {
+  for (const run of runs) run.kill();
+  for (const room of rooms) rmSync(room, { recursive: true, force: true });
+});
+
 /**
  * Runs the program with these arguments, and returns its status and what it wrote. If the signal aborts, the run ends without an answer.
  * @param {string[]} words
@@ -26,12 +37,14 @@ export function answerTo(words, signal) {
   const program = env.PROGRAM ?? join(TOP, "hrthood");
   return new Promise((resolve, reject) => {
     const run = spawn(program, words, { stdio: ["ignore", "pipe", "pipe"], signal, env: { ...env, HRTHOOD_WORDS: "never" } });
+    runs.add(run);
     /** @type {[Buffer[], Buffer[]]} */
     const [out, err] = [[], []];
     run.stdout.on("data", (/** @type {Buffer} */ piece) => out.push(piece));
     run.stderr.on("data", (/** @type {Buffer} */ piece) => err.push(piece));
     run.on("error", (/** @type {Error} */ fault) => reject(new NoAnswer(`${program}: ${fault.message}`)));
     run.on("close", (/** @type {number|null} */ status, /** @type {string|null} */ by) => {
+      runs.delete(run);
       if (status === null) reject(new NoAnswer(`${program} was ended by ${by}`));
       else resolve({ status, out: Buffer.concat(out), err: Buffer.concat(err) });
     });
@@ -46,12 +59,14 @@ export function answerTo(words, signal) {
  */
 export async function answerOver(verb, text, signal) {
   const room = mkdtempSync(join(tmpdir(), "hrthood-"));
+  rooms.add(room);
   try {
     const file = join(room, "text.design");
     writeFileSync(file, text);
     return await answerTo([verb, file], signal);
   } finally {
     rmSync(room, { recursive: true, force: true });
+    rooms.delete(room);
   }
 }
 

@@ -153,8 +153,9 @@ async function tryDiagnostics(/** @type {Client} */ client) {
   const [bound] = await client.diagnostics(uri, 4);
   equal([bound?.code, bound?.range.start], ["U1", placeOf(pump, "DEADLINE = 30;")], "a missed deadline, in a whole text");
   // Two texts at once: only the last one is judged.
-  client.change(uri, 5, [{ text: slip }]);
-  client.change(uri, 6, [{ text: pump }]);
+  const both = [slip, pump].map((text, which) => ({ jsonrpc: "2.0", method: "textDocument/didChange",
+    params: { textDocument: { uri, version: 5 + which }, contentChanges: [{ text }] } }));
+  client.raw(both.map((one) => client.framed(shown(one))).join(""));
   equal(await client.diagnostics(uri, 6), [], "the last of two changes");
   judge(client.came.every(({ params }) => params?.version !== 5), "the first of two changes is not judged");
   client.tell("textDocument/didClose", { textDocument: { uri } });
@@ -275,7 +276,7 @@ async function tryFaults(/** @type {Client} */ client) {
   const body = Buffer.from(client.framed(shown({ jsonrpc: "2.0", id: "one", method: "textDocument/documentSymbol", params: { textDocument: { uri: "file:///pump.design" } } })));
   for (const byte of body) {
     client.raw(Buffer.from([byte]));
-    await new Promise((resolve) => setImmediate(resolve));
+    await new Promise((resolve) => setTimeout(resolve, 0));
   }
   equal((await client.next(({ id }) => id === "one")).result?.length, 1, "byte by byte");
   client.raw(client.framed(shown({ jsonrpc: "2.0", id: "two", method: "x" })) + client.framed(shown({ jsonrpc: "2.0", id: "three", method: "y" })));

@@ -116,13 +116,17 @@ function edited(/** @type {string} */ editor, /** @type {string} */ file, /** @t
 const writeOut = (/** @type {string} */ value) => `call writefile([json_encode(${value})], '${join(room, "out")}')`;
 
 function tryPlace(/** @type {string} */ editor) {
-  const text = readFileSync(join(examples, "commented.design"), "utf8");
+  // A design, and all words, also in capitals.
+  const all = WORDS.map(([, , words]) => words).join(" ");
+  const text = `${readFileSync(join(examples, "commented.design"), "utf8")}\n${all}\n${all.toUpperCase()} a_name 1_000 -- end\n`;
+  const file = join(room, "words.design");
+  writeFileSync(file, text);
   const places = tokensOf(text).map(({ word, index }) => {
     const before = text.slice(0, index).split("\n");
     return { word, line: before.length, column: Buffer.byteLength(before[before.length - 1]) + 1 };
   });
   const list = `[${places.map(({ line, column }) => `[${line},${column}]`).join(",")}]`;
-  const told = edited(editor, join(examples, "commented.design"), [`let places = ${list}`,
+  const told = edited(editor, file, [`let places = ${list}`,
     writeOut("{'filetype': &filetype, 'groups': map(places, {_, p -> synIDattr(synID(p[0], p[1], 1), 'name')}), 'comment': synIDattr(synID(1, 5, 1), 'name')}")]);
   const { filetype, groups, comment } = JSON.parse(told || "{}");
   judge(filetype === "hrthood" && comment === "hrthoodComment", `${editor}: ${filetype} ${comment}`);

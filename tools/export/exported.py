@@ -85,7 +85,7 @@ def program_path() -> str:
     """The path of the program. It is refused if there is none."""
     path = os.path.abspath(os.environ.get('PROGRAM', os.path.join(TOP, 'crates', 'hrthood', 'out', 'hrthood')))
     if not os.access(path, os.X_OK):
-        raise Refused(f'there is no program {path}; tools/gate/prove_program.sh makes it')
+        raise Refused(f'there is no program {path}; tools/gate/prove_program.sh makes it, or set PROGRAM to tools/hrthood.mjs')
     return path
 
 

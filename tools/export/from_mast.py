@@ -10,8 +10,8 @@ of that thread, as `to_mast.py` writes it. The bodies are calls and `work`, so t
 take longer than its cost, each is in a branch of an `if`.
 
 Not carried over: priorities and ceilings, which the program computes (a comment says where they differ), best and average times, overheads of the
-processor, and other kinds of events, handlers, servers and resources, which are refused. A design has costs of calls, requests and ends of at least
-a tick, so a thread that costs less than those of its calls is refused: more ticks for a unit may help.
+processor (a comment says which), and other kinds of events, handlers, servers and resources, which are refused. A design has costs of calls, requests
+and ends of at least a tick, so a thread that costs less than those of its calls is refused: more ticks for a unit may help.
 
 The status is 2 for a file that is refused, with its line, and for other words. Nothing is proved of this script.
 """
@@ -101,7 +101,8 @@ class Skeleton:
     def lines(self) -> Iterator[str]:
         """The lines of the design."""
         threads = [line for task in self.by_priority for line in self.thread(task)]
-        yield f'-- A skeleton from a file of MAST: one unit of time is {self.per_unit} ticks, and each `work` is what remains of a cost.'
+        ticks = f'{self.per_unit} tick' + 's' * (self.per_unit > 1)
+        yield f'-- A skeleton from a file of MAST: one unit of time is {ticks}, and each `work` is what remains of a cost.'
         yield from (f'-- {note}' for note in self.notes())
         yield f'DESIGN {self.title} IS'
         yield f'COSTS ASSIGN = {self.assign}; TEST = 1; TURN = 1; CALL = 1; NULL = 1; PUT = 1; FINISH = 1; END COSTS;'
@@ -115,6 +116,8 @@ class Skeleton:
 
     def notes(self) -> Iterator[str]:
         """What the program computes otherwise than the file has it."""
+        if self.system.overheads:
+            yield f'The file has overheads, which no cost here includes: {", ".join(self.system.overheads)}.'
         by_deadline = sorted(self.by_priority, key=lambda task: task.deadline)
         if by_deadline != self.by_priority or len({task.priority for task in self.by_priority}) < len(self.by_priority):
             yield 'The priorities of the file differ: by deadline the order is ' + ', '.join(self.objects[task.name] for task in by_deadline) + '.'

@@ -191,9 +191,18 @@ class System:
         processors = list(self.kinds.get('processing_resource', {}).values())
         if len(processors) != 1:
             raise Fault(processors[1].line if processors else 1, 'one processing resource is wanted')
+        if processors[0].text('type', 'regular_processor') not in ('regular_processor', 'fixed_priority_processor'):
+            raise Fault(processors[0].line, f'a processing resource of type {processors[0].text("type")} is not read')
+        for scheduler in self.kinds.get('scheduler', {}).values():
+            for policy in scheduler.elements('policy'):
+                if policy.text('type') != 'fixed_priority':
+                    raise Fault(policy.line, f'a scheduler of policy {policy.text("type")} is not read')
         self.speed = processors[0].number('speed_factor', 1)
         if not self.speed:
             raise Fault(processors[0].line, 'the speed factor is 0')
+        platform = [*processors, *self.kinds.get('scheduler', {}).values()]
+        parts = platform + [policy for one in platform if 'policy' in one.values for policy in one.elements('policy')]
+        self.overheads = sorted({name for one in parts for name in one.values if name.startswith('worst_') and one.number(name)})
         self.resources = {name: self.ceiling(one) for name, one in self.kinds.get('shared_resource', {}).items()}
         self.tasks: dict[str, Task] = {}
         for transaction in self.kinds.get('transaction', {}).values():
@@ -269,7 +278,8 @@ class System:
                 is_own = wanted.text('referenced_event', '') == handler.text('input_event') and not event.number('max_jitter', 0)
                 if wanted.text('type') == 'hard_local_deadline' or wanted.text('type') == 'hard_global_deadline' and is_own:
                     return wanted.number('deadline')
-                raise Fault(wanted.line, f'a {wanted.text("type")} that does not count from the release of its activity is not read')
+                why = ' that does not count from the release of its activity' if wanted.text('type') == 'hard_global_deadline' else ''
+                raise Fault(wanted.line, f'a {wanted.text("type")}{why} is not read')
         return period
 
     def cost(self, name: Word) -> tuple[Fraction, list[Section]]:

@@ -322,6 +322,9 @@ class ByHand(unittest.TestCase):
                 ('Input_Event => e3', 'Input_Event => e4', '23: transaction t3 has a handler that its external event does not reach once'),
                 ('Referenced_Event => e2', 'Referenced_Event => e9',
                  '21: a hard_global_deadline that does not count from the release of its activity is not read'),
+                ('Hard_Local_Deadline', 'Soft_Local_Deadline', '16: a soft_local_deadline is not read'),
+                ('Regular_Processor', 'Packet_Based_Network', '2: a processing resource of type packet_based_network is not read'),
+                ('Policy => (Type => Fixed_Priority)', 'Policy => (Type => EDF)', '3: a scheduler of policy edf is not read'),
                 ('Name => quick, Worst', 'Name => quick, Worse', '8: worst_case_execution_time is missing'),
                 ('Name => slow, Composite_Operation_List => (enter, leave, rest)', 'Name => slow, Composite_Operation_List => (slow, slow)',
                  '12: slow has more than 10000 operations, or 50 inside one another'),
@@ -370,11 +373,12 @@ class ByHand(unittest.TestCase):
         with tempfile.TemporaryDirectory() as room:
             file = os.path.join(room, 'x.mast')
             with open(file, 'w', encoding='utf-8') as stream:
-                text = BY_HAND.replace('Ceiling => 2', 'Ceiling => 3')
+                text = BY_HAND.replace('Ceiling => 2', 'Ceiling => 3').replace('=> Fixed_Priority)', '=> Fixed_Priority, Worst_Switch => 1)')
                 stream.write(text.replace('Deadline => 9', 'Deadline => 12').replace('Deadline => 30', 'Deadline => 11'))
             status, out, _ = run('from_mast.py', file)
             self.assertEqual(status, 0)
-            self.assertEqual(out.splitlines()[1:3], ['-- The priorities of the file differ: by deadline the order is middle, high, low.',
+            self.assertEqual(out.splitlines()[1:4], ['-- The file has overheads, which no cost here includes: worst_switch.',
+                                                     '-- The priorities of the file differ: by deadline the order is middle, high, low.',
                                                      '-- The ceiling of r in the file is 3, and its users have priorities up to 2.'])
 
 

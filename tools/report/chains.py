@@ -72,7 +72,7 @@ def output(verb: str, file: str) -> str:
     """What a verb writes of a file that it accepts."""
     path = os.path.abspath(os.environ.get('PROGRAM', os.path.join(TOP, 'crates', 'hrthood', 'out', 'hrthood')))
     if not os.access(path, os.X_OK):
-        raise Refused(f'there is no program {path}; tools/gate/prove_program.sh makes it')
+        raise Refused(f'there is no program {path}; tools/gate/prove_program.sh makes it, or set PROGRAM to tools/hrthood.mjs')
     done = subprocess.run([path, verb, file], capture_output=True, text=True, stdin=subprocess.DEVNULL)
     lines = [line for line in done.stderr.splitlines() if not line.startswith('hrthood: ')]
     if done.returncode != 0:
@@ -266,9 +266,12 @@ def main() -> None:
         return
     is_csv = words[:1] == ['--csv']
     words = words[1:] if is_csv else words
-    names = [name.strip() for name in words[1].split('->')] if len(words) == 2 else []
-    if not names or words[0].startswith('-') or not all(re.fullmatch(r'[a-z][a-z0-9_]*', name) for name in names):
+    if len(words) != 2 or words[0].startswith('-'):
         print(__doc__, file=sys.stderr)
+        sys.exit(2)
+    names = [name.strip().lower() for name in words[1].split('->')]
+    if not all(re.fullmatch(r'[a-z][a-z0-9_]*', name) for name in names):
+        print(f'chains.py: not names of threads with -> between them: {words[1]} (chains.py [--csv] DESIGN "a -> b")', file=sys.stderr)
         sys.exit(2)
     sys.setrecursionlimit(MOST_CALLS)
     file = words[0]

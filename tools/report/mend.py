@@ -336,7 +336,7 @@ def main() -> None:
     sys.setrecursionlimit(MOST_CALLS)
     path = os.path.abspath(os.environ.get('PROGRAM', os.path.join(TOP, 'crates', 'hrthood', 'out', 'hrthood')))
     if not os.access(path, os.X_OK):
-        sys.exit(f'mend.py: there is no program {path}; tools/gate/prove_program.sh makes it')
+        sys.exit(f'mend.py: there is no program {path}; tools/gate/prove_program.sh makes it, or set PROGRAM to tools/hrthood.mjs')
     with tempfile.TemporaryDirectory() as room:
         try:
             print('\n'.join(written(rows_of(Program(path, room), files[0]), is_csv)))

@@ -200,6 +200,7 @@ class ByHand(unittest.TestCase):
             status, out, err = run(*words.split('|'))
             self.assertEqual((status, out), (2, ''), words)
             self.assertIn('chains.py [--csv]', err)
+        self.assertEqual(run('a -> b', 'x.design')[2].split(' (')[0], 'chains.py: not names of threads with -> between them: x.design')
 
 
 @unittest.skipUnless(HAS_PROGRAM, f'there is no program {PROGRAM}')
@@ -222,6 +223,7 @@ From a change outside that gyro reads: its period of 50 more, 404 ticks (40400 u
 ground,,,347,347,347
 kalman -> wheels,estimate.wanted: estimate.aim; estimate.target,200,140,174,340
 ''', ''))
+        self.assertEqual(run('--csv', SERVO, 'Ground -> KALMAN'), run('--csv', SERVO, 'ground->kalman'))
 
     def test_parents(self) -> None:
         """`law` reads through a parent what `inertial` writes into its child."""

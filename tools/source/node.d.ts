@@ -12,17 +12,23 @@ declare module "node:child_process" {
 }
 declare module "node:fs" {
   export const accessSync: any;
+  export const chmodSync: any;
   export const closeSync: any;
   export const constants: any;
+  export const copyFileSync: any;
   export const existsSync: any;
+  export const lstatSync: any;
+  export const mkdirSync: any;
   export const mkdtempSync: any;
   export const openSync: any;
   export const readFileSync: any;
   export const readSync: any;
   export const readdirSync: any;
   export const realpathSync: any;
+  export const renameSync: any;
   export const rmSync: any;
   export const statSync: any;
+  export const symlinkSync: any;
   export const writeFileSync: any;
   export const writeSync: any;
 }
@@ -44,6 +50,8 @@ declare module "node:process" {
   export const kill: any;
   export const pid: any;
   export const stderr: any;
+  export const stdin: any;
+  export const stdout: any;
 }
 declare module "node:test" {
   export const describe: any;
@@ -68,3 +76,4 @@ declare module "node:vm" {
 
 declare const process: any;
 declare const Buffer: any;
+type Buffer = any;

@@ -49,7 +49,7 @@ def output(verb: str, file: str) -> str:
     """What a verb writes of a file that it accepts."""
     path = os.path.abspath(os.environ.get('PROGRAM', os.path.join(TOP, 'crates', 'hrthood', 'out', 'hrthood')))
     if not os.access(path, os.X_OK):
-        raise Refused(f'there is no program {path}; tools/gate/prove_program.sh makes it')
+        raise Refused(f'there is no program {path}; tools/gate/prove_program.sh makes it, or set PROGRAM to tools/hrthood.mjs')
     done = subprocess.run([path, verb, file], capture_output=True, text=True, stdin=subprocess.DEVNULL)
     lines = [line for line in done.stderr.splitlines() if not line.startswith('hrthood: ')]
     if done.returncode != 0:

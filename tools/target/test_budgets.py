@@ -144,12 +144,14 @@ class Written(InFolder):
         """Times are rounded up to ticks."""
         for unit, time, ticks in (('us', '50', 1), ('us', '50.001', 2), ('us', '0.1', 1), ('ns', '100001', 3), ('ms', '1.5', 30), ('s', '2', 40000)):
             self.assertEqual(wcet.rows_of('T', f'object,operation,{unit}\na,b,{time}\n', 50000), {('a', 'b'): (ticks, 2)})
+        self.assertEqual(wcet.rows_of('T', '\ufeffobject,operation,ticks\r\n\r\na,b,7\r\n', None), {('a', 'b'): (7, 3)})
         self.assertEqual(wcet.tick_of('-- TICK = 1 us;\nTick = 2  ms ;'), 2000000)
 
     def test_times_that_do_not_fit(self) -> None:
         for times, line in (
                 ('', 'T:1: the first line is not object,operation,ticks, or with ns, us, ms or s for ticks'),
-                ('object,operation,hours\n', 'T:1: the first line is not object,operation,ticks, or with ns, us, ms or s for ticks'),
+                ('object,operation,hours\n',
+                 'T:1: the first line is not object,operation,ticks, or with ns, us, ms or s for ticks: object,operation,hours'),
                 ('object,operation,ticks\na,thread\n', 'T:2: not a name, a name and a time: a,thread'),
                 ('object,operation,ticks\n\na,thread,-1\n', 'T:3: not a name, a name and a time: a,thread,-1'),
                 ('object,operation,ticks\na,thread,1.5\n', 'T:2: 1.5 is not a whole number of ticks'),

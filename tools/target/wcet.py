@@ -67,10 +67,11 @@ def tick_of(design: str) -> int | None:
 
 def rows_of(file: str, text: str, tick: int | None) -> Dict[Tuple[str, str], Row]:
     """The times of a file, by object and operation."""
-    lines = text.splitlines()
+    lines = text.lstrip('\ufeff').splitlines()
     head = [cell.strip().lower() for cell in lines[0].split(',')] if lines else []
     if head[:2] != ['object', 'operation'] or head[2:] not in [['ticks'], *([unit] for unit in NANOSECONDS)]:
-        raise Fault(f'{file}:1: the first line is not object,operation,ticks, or with ns, us, ms or s for ticks')
+        first = lines[0].strip() if lines else ''
+        raise Fault(f'{file}:1: the first line is not object,operation,ticks, or with ns, us, ms or s for ticks: {first}'.rstrip(': '))
     if head[2] != 'ticks' and not tick:
         raise Fault(f'{file}:1: the times are in {head[2]}, and the design has no TICK')
     rows: Dict[Tuple[str, str], Row] = {}
@@ -123,7 +124,7 @@ def write(file: str, text: str) -> None:
     """Replaces a file by a text that the program accepts, with the rights of the file. Nothing else of its folder is changed."""
     program = os.path.abspath(os.environ.get('PROGRAM', os.path.join(TOP, 'crates', 'hrthood', 'out', 'hrthood')))
     if not os.access(program, os.X_OK):
-        raise Refused(f'there is no program {program}; tools/gate/prove_program.sh makes it')
+        raise Refused(f'there is no program {program}; tools/gate/prove_program.sh makes it, or set PROGRAM to tools/hrthood.mjs')
     real = os.path.realpath(file)
     handle, new = tempfile.mkstemp(prefix='.wcet_', dir=os.path.dirname(real))
     try:

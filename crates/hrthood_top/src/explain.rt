@@ -70,34 +70,44 @@ fn add_utilisation(text: &mut Vec<u8>, per_mille: u64) -> Result<(), NoMemory>
     Ok(())
 }
 
-/// Adds the lines of an explanation without the utilisation.
-fn add_explained(text: &mut Vec<u8>, explanation: &Explanation) -> Result<(), NoMemory>
+/// The lines of an explanation without the utilisation.
+fn explained_lines(alloc: Global, explanation: &Explanation) -> Result<Vec<u8>, NoMemory>
     requires { Each HasPeriod explanation.now.threads.items }
-    ensures { OnOk result (text.new.items ≡ text.old.items ++ explained explanation.now.late explanation.now.threads.items
+    ensures { IfOk result (λ v. v.items ≡ explained explanation.now.late explanation.now.threads.items
         (map (λ c. c.items) explanation.now.chains.items) explanation.now.ceilings.items) }
 {
     let threads = explanation.threads.as_slice();
-    add_late(text, &explanation.late)?;
-    add_threads(text, threads)?;
-    add_chains(text, threads, explanation.chains.as_slice())?;
-    add_ceilings(text, explanation.ceilings.as_slice())
+    let mut text = Vec::new(alloc);
+    add_late(&mut text, &explanation.late)?;
+    add_threads(&mut text, threads)?;
+    add_chains(&mut text, threads, explanation.chains.as_slice())?;
+    add_ceilings(&mut text, explanation.ceilings.as_slice())?;
+    Ok(text)
 }
 
-/// The lines of an explanation: the utilisation is the first where it is over 1000, and else the last.
+/// These lines with the utilisation: it comes first where it is over 1000, and else last.
+fn utilised_lines(alloc: Global, lines: Vec<u8>, per_mille: u64) -> Result<Vec<u8>, NoMemory>
+    ensures { IfOk result (λ v. v.items ≡ with_utilisation per_mille lines.items) }
+{
+    if per_mille > 1000 {
+        let mut text = Vec::new(alloc);
+        add_utilisation(&mut text, per_mille)?;
+        text.extend_from_slice(lines.as_slice())?;
+        return Ok(text);
+    }
+    let mut text = lines;
+    add_utilisation(&mut text, per_mille)?;
+    Ok(text)
+}
+
+/// The lines of an explanation.
 fn lines_of(alloc: Global, explanation: &Explanation) -> Result<Vec<u8>, NoMemory>
     requires { Each HasPeriod explanation.now.threads.items }
     ensures { IfOk result (λ v. v.items ≡ with_utilisation explanation.now.utilisation (explained explanation.now.late
         explanation.now.threads.items (map (λ c. c.items) explanation.now.chains.items) explanation.now.ceilings.items)) }
 {
-    let mut text = Vec::new(alloc);
-    if explanation.utilisation > 1000 {
-        add_utilisation(&mut text, explanation.utilisation)?;
-        add_explained(&mut text, explanation)?;
-    } else {
-        add_explained(&mut text, explanation)?;
-        add_utilisation(&mut text, explanation.utilisation)?;
-    }
-    Ok(text)
+    let lines = explained_lines(alloc, explanation)?;
+    utilised_lines(alloc, lines, explanation.utilisation)
 }
 
 /// The lines of a flat design, whose least priority is written as `first`.

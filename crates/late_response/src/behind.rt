@@ -13,7 +13,7 @@ fn is_live(reach: &Reach) -> bool
     matches!(reach, Reach::Solved { .. })
 }
 
-/// Returns the starter of a row, where it has one that is not live, or that stands behind so many rows.
+/// Returns the starter of a row, where it has one that is not live, or is none of so many first rows.
 fn lost_starter(row: &ThreadRow, known: &[Known], count: usize) -> Option<u32>
     requires { IsStarter (length known.now) row.now.starter }
     ensures some { IfSome result (λ s. (row.now.starter ≡ Some s) × (IsLiveIn (slice_get known.now s) → count ≤ s)) }
@@ -26,7 +26,7 @@ fn lost_starter(row: &ThreadRow, known: &[Known], count: usize) -> Option<u32>
     Some(starter)
 }
 
-/// Returns the first of so many rows whose starter is not live, or stands behind them, with that starter.
+/// Returns the first of so many first rows whose starter is not live, or is none of them, with that starter.
 fn first_behind(table: &[ThreadRow], known: &[Known], count: usize) -> Option<(usize, u32)>
     requires table { IsTable table.now }
     requires long { length known.now ≡ length table.now }
@@ -68,7 +68,7 @@ fn mark(known: &mut [Known], first: usize, starter: u32)
     }
 }
 
-/// Notes for each live row that needs a starter that is not live, or falls behind one, the starter of the first row that has such a one.
+/// Notes the starter of the first row whose starter is lost, for each live row that needs a lost one: one that is not live, or needs such a one.
 pub fn close(table: &[ThreadRow], known: &mut [Known])
     requires table { IsTable table.now }
     requires long { length known.old ≡ length table.now }

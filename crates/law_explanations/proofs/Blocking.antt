@@ -1,8 +1,7 @@
 -- That what is reported to block a thread is the longest section that keeps it waiting.
-use Rattle.std.proofs.Common.{◌≡◌, ℕ, zero, suc, ◌+◌, ◌-◌, ◌≤◌, ◌<◌, Bool, true, false, List, [], ◌∷◌, length, map, zip, Option, Some, None}
+use Rattle.std.proofs.Common.{◌≡◌, ℕ, zero, suc, ◌-◌, ◌≤◌, ◌<◌, Bool, true, List, [], ◌∷◌, length, map, zip, Option, Some, None}
 use Rattle.std.proofs.Common.{refl, sym, ap, subst, ◌∙◌, arith}
 use Rattle.std.specs.Prelude.{filter, nat_le, nat_lt, option_and_then, option_map, slice_get, if◌then◌else◌}
-use Rattle.std.specs.List.{list_any}
 use Rattle.std.proofs.lemmas.Option.{none-some, same_Some}
 use Rattle.seq_tree.specs.Calls.{same_op}
 use Rattle.seq_tree.specs.declared.tree.OpName.{OpName}
@@ -13,19 +12,17 @@ use Rattle.analysis.specs.Blocking.{blocking, lower_sections}
 use Rattle.analysis.specs.Ceilings.{ceiling}
 use Rattle.analysis.specs.Priorities.{priorities_of}
 use Rattle.analysis.specs.Sections.{Section, section, sections}
-use Rattle.analysis.specs.Tables.{row_of, table}
 use Rattle.block_causes.specs.Causes.{Cause, cause}
 use Rattle.block_causes.specs.Entered.{entered}
-use Rattle.block_causes.specs.Laws.{BlockingIsCaused, CausesBlock, IsCause, SectionsAreOfOperations}
+use Rattle.block_causes.specs.Laws.{BlockingIsCaused, CausesBlock, SectionsAreOfOperations}
 use Rattle.law_calls.proofs.Shared.Lists.{IsIn, any-at, at-in, filter-in, in-flat, in-map}
 use Rattle.law_calls.proofs.Shared.Places.{zip-at}
 use Rattle.law_designs.proofs.Shared.Greatest.{at-most}
 use Rattle.law_designs.proofs.Shared.TableRanges.{sound-table}
 use Rattle.late_response.specs.Laws.{LeastIsSolved}
 use Rattle.explanation.specs.declared.reasons.Blocker.{Blocker}
-use Rattle.explanation.specs.declared.reasons.Reasons.{Reasons}
 use Rattle.explanation.specs.Threads.{blocker_of}
-use Rattle.law_explanations.specs.Blockers.{BlockersAreLongest, IsBlocked, IsLongest, KeepsWaiting, op_of, section_ticks}
+use Rattle.law_explanations.specs.Blockers.{BlockersAreLongest, IsBlocked, KeepsWaiting, section_ticks}
 use Rattle.law_explanations.proofs.Reasoned.{reason-is}
 use Rattle.law_explanations.proofs.Terms.{found-told}
 

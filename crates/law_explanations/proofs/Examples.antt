@@ -1,5 +1,5 @@
 -- What the definitions of the laws say of small cases, and what breaks each of their clauses.
-use Rattle.std.proofs.Common.{◌≡◌, ℕ, ◌+◌, ◌-◌, ◌<◌, ◌≤◌, true, List, [], ◌∷◌, Option, Some, None, inl, inr, refl, arith}
+use Rattle.std.proofs.Common.{◌≡◌, ℕ, ◌+◌, ◌-◌, ◌<◌, ◌≤◌, true, List, [], ◌∷◌, Some, None, inl, inr, refl, arith}
 use Rattle.std.specs.Prelude.{codes, slice_get}
 use Rattle.std.specs.List.{list_any}
 use Rattle.seq_tree.specs.Calls.{same_op}
@@ -12,7 +12,6 @@ use Rattle.rt_response.specs.declared.rows.Bound.{Bound}
 use Rattle.analysis.specs.Ceilings.{ceiling}
 use Rattle.analysis.specs.Priorities.{priorities_of}
 use Rattle.block_causes.specs.Entered.{entered}
-use Rattle.late_response.specs.declared.reach.Reach.{Reach}
 use Rattle.late_response.specs.declared.reach.Reach.TheVariants.{Solved, Beyond, Behind}
 use Rattle.explanation.specs.declared.reasons.Blocker.{Blocker}
 use Rattle.explanation.specs.declared.reasons.Reasons.{Reasons}

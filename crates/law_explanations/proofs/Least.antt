@@ -1,5 +1,5 @@
 -- That the numbers that are reported are at most those of every solution, so that late threads are late in each.
-use Rattle.std.proofs.Common.{◌≡◌, ◌⊎◌, ℕ, ◌+◌, ◌≤◌, ◌<◌, List, Option, Some, inl, inr, sym, ap, subst, ◌∙◌, arith}
+use Rattle.std.proofs.Common.{◌≡◌, ℕ, List, Some, inl, inr, sym, ap, ◌∙◌, arith}
 use Rattle.std.specs.Prelude.{slice_get}
 use Rattle.rt_response.specs.declared.rows.ThreadRow.{ThreadRow}
 use Rattle.rt_response.specs.declared.rows.Bound.{Bound}
@@ -9,7 +9,7 @@ use Rattle.law_calls.proofs.Shared.Places.{map-at}
 use Rattle.law_designs.proofs.Shared.TableRanges.{sound-table}
 use Rattle.late_response.specs.declared.reach.Reach.{Reach}
 use Rattle.late_response.specs.declared.reach.Reach.TheVariants.{Solved, Beyond, Behind}
-use Rattle.late_response.specs.Late.{IsFar, IsTold}
+use Rattle.late_response.specs.Late.{IsTold}
 use Rattle.late_response.specs.Laws.{BeyondIsLate, LeastIsSolved, SolvedIsLeast}
 use Rattle.explanation.specs.declared.reasons.Reasons.{Reasons}
 use Rattle.explanation.specs.Threads.{reasons_of}

@@ -1,15 +1,14 @@
 -- What is reported of the thread at a place of the table: it has the priority of that place, with its row, and the cause of its blocking.
-use Rattle.std.proofs.Common.{◌≡◌, ℕ, zero, suc, ◌+◌, ◌-◌, ◌<◌, List, [], ◌∷◌, length, map, zip, Option, Some, refl, sym, ap, ◌∙◌, arith}
-use Rattle.std.specs.Prelude.{filter_map, option_and_then, option_map, slice_get}
+use Rattle.std.proofs.Common.{◌≡◌, ℕ, zero, suc, ◌+◌, ◌-◌, ◌<◌, List, [], ◌∷◌, length, zip, Some, refl, sym, ap, ◌∙◌, arith}
+use Rattle.std.specs.Prelude.{option_and_then, option_map, slice_get}
 use Rattle.std.proofs.lemmas.Option.{none-some, same_Some, slice_get_within}
-use Rattle.seq_tree.specs.Lists.{Each}
 use Rattle.ods_tree.specs.Flats.{Flat, Thread}
 use Rattle.rt_response.specs.declared.rows.ThreadRow.{ThreadRow}
 use Rattle.analysis.specs.Ceilings.{numbered}
 use Rattle.analysis.specs.Priorities.{priorities_of}
-use Rattle.analysis.specs.Tables.{downwards, places_by_priority, row_at, row_of, table}
+use Rattle.analysis.specs.Tables.{downwards, row_at, row_of, table}
 use Rattle.block_causes.specs.Causes.{cause}
-use Rattle.law_calls.proofs.Shared.Places.{all-at, map-at, zip-at}
+use Rattle.law_calls.proofs.Shared.Places.{all-at, map-at, same-item, zip-at}
 use Rattle.law_designs.proofs.Shared.TabledPrograms.{has-at}
 use Rattle.law_orders.proofs.Shared.DeadlineOrders.{order-at, order-count, priority-there}
 use Rattle.law_orders.proofs.Shared.OrderRows.{all-made-at}
@@ -109,7 +108,8 @@ module _ (first : ℕ) (f : Flat) (found : List Reach) (long : length found ≡ 
       zip-at (table f).places _ i order.0 _ order.1 (zip-at (table f).rows _ i _ _ row (zip-at found _ i r.0 _ r.1
       (zip-at (causes f) (numbered first (downwards (length f.threads))) i _ _ caused written))) in
       let made : reasons_at f k ≡ Some (told k u.0) = reason-made k u.0 u.1 in
-      let same : told k u.0 ≡ t = same_Some (told k u.0) t (sym (all-made-at (reasons_at f) ks told-there i k (told k u.0) known made) ∙ at) in
+      let same : told k u.0 ≡ t =
+      same-item (slice_get (reasons_of first f found) i) (told k u.0) t (all-made-at (reasons_at f) ks told-there i k (told k u.0) known made) at in
       record {
         inside = inside;
         place = order.0;

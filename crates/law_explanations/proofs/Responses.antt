@@ -27,7 +27,7 @@ use Rattle.late_response.specs.declared.reach.Reach.TheVariants.{Solved}
 use Rattle.explanation.specs.declared.reasons.Reasons.{Reasons}
 use Rattle.explanation.specs.Chains.{chain_response, lowest_place, response_in}
 use Rattle.explanation.specs.Findings.{solved_of}
-use Rattle.explanation.specs.Threads.{Known, blocker_of, causes, reasons_at, reasons_of}
+use Rattle.explanation.specs.Threads.{blocker_of, causes, reasons_of}
 use Rattle.explanation.specs.Values.{value_at}
 use Rattle.law_explanations.specs.Responding.{ExplainedChainsRespond, OfNames, names_along}
 use Rattle.law_explanations.proofs.Placed.{found-long, told-reaches, zip-long}
@@ -67,11 +67,12 @@ get-map g (x ∷ xs) (suc k) = get-map g xs k
 map-found : {A B C : Type 0} (g : B → C) (h : A → Option B) (k : A → Option C) → ((a : A) → option_map g (h a) ≡ k a) → (xs : List A)
     → map g (filter_map h xs) ≡ filter_map k xs
 map-found g h k same [] = refl
-map-found {A} {B} {C} g h k same (x ∷ xs) = by (h x) ∙ ap (λ o. cons_option o (filter_map k xs)) (same x)
+map-found {A} {B} {C} g h k same (x ∷ xs) = by (h x) (map-found g h k same xs) ∙ ap (λ o. cons_option o (filter_map k xs)) (same x)
   where
-    by : (o : Option B) → map g (cons_option o (filter_map h xs)) ≡ cons_option (option_map g o) (filter_map k xs)
-    by None = map-found g h k same xs
-    by (Some b) = ap (λ l. g b ∷ l) (map-found g h k same xs)
+    by : (o : Option B) → map g (filter_map h xs) ≡ filter_map k xs
+        → map g (cons_option o (filter_map h xs)) ≡ cons_option (option_map g o) (filter_map k xs)
+    by None rest = rest
+    by (Some b) rest = ap (λ l. g b ∷ l) rest
 
 -- the names of threads by their places
 module _ (f : Flat) where
@@ -149,8 +150,8 @@ counted-at {A} n (x ∷ xs) zero z e =
     let here : n ≡ n + 0 = omega arith in
     (ap (λ (w : ℕ × A). w.0) (sym same) ∙ here, ap (λ (w : ℕ × A). Some w.1) same)
 counted-at n (x ∷ xs) (suc k) z e =
-    let rest = counted-at (suc n) xs k z e in
-    let there : suc n + k ≡ n + suc k = omega arith in
+    let rest = counted-at (n + 1) xs k z e in
+    let there : n + 1 + k ≡ n + suc k = omega arith in
     (rest.0 ∙ there, rest.1)
 
 pub explained-chains-respond : (limit : ℕ) → PrintedChainsKeepToLevels limit → ExplainedChainsRespond limit

@@ -60,7 +60,7 @@ const KEPT: &[&str] = &[
         THREAD; END a; OBJECT b IS SPORADIC ATTRIBUTES SEPARATION = 100; DEADLINE = 40; THREAD_BUDGET = 1000; PROVIDES go ASER; REQUIRES c.go; \
         THREAD work (4); c.go; END THREAD; END b; OBJECT c IS SPORADIC ATTRIBUTES SEPARATION = 100; DEADLINE = 60; THREAD_BUDGET = 1000; \
         PROVIDES go ASER; THREAD work (5); END THREAD; END c;
-    why: 8 + 17 + 23 = 48; the jitters are 0, 8 and 8 + 17
+    why: a chain takes what its lowest thread does, 17 and 23, and not 8 + 17 and 8 + 17 + 23; the jitters are 0, 8 and 8 + 17; 23/100 is 230
     out: thread a priority 3 period 100 deadline 20 jitter 0 cost 8 blocking 0 response 8
     out: slack a deadline 12 separation 92
     out: thread b priority 2 period 100 deadline 40 jitter 8 cost 9 blocking 0 response 17
@@ -82,7 +82,7 @@ const KEPT: &[&str] = &[
         THREAD; END a; OBJECT b IS SPORADIC ATTRIBUTES SEPARATION = 100; DEADLINE = 40; THREAD_BUDGET = 1000; PROVIDES go ASER; REQUIRES c.go; \
         THREAD work (4); c.go; END THREAD; END b; OBJECT c IS SPORADIC ATTRIBUTES SEPARATION = 100; DEADLINE = 20; THREAD_BUDGET = 1000; \
         PROVIDES go ASER; THREAD work (5); END THREAD; END c;
-    why: 23 + 17 + 8 = 48; the jitters are 0, 23 and 23 + 17
+    why: the lowest thread of both chains is a, with 23; the jitters are 0, 23 and 23 + 17
     out: thread c priority 3 period 100 deadline 20 jitter 40 cost 6 blocking 2 response 8
     out: started c by b jitter 23 response 17
     out: blocked c by b in c.go ticks 2
@@ -175,6 +175,12 @@ const KEPT: &[&str] = &[
     out: chain s jitter 0 response 10 by p
     out: ceiling s 32
     out: utilisation 200",
+    "name: a full processor
+    children: OBJECT a IS CYCLIC ATTRIBUTES PERIOD = 4; DEADLINE = 4; THREAD_BUDGET = 1000; THREAD work (3); END THREAD; END a;
+    why: 4/4 is 1000, which is not over 1000, so it comes last
+    out: thread a priority 1 period 4 deadline 4 jitter 0 cost 4 blocking 0 response 4
+    out: slack a deadline 0 separation 0
+    out: utilisation 1000",
     "name: no thread and no protected object
     root: OBJECT q IS PASSIVE PROVIDES f; OPERATION f IS BEGIN null; END f; END q;
     out: utilisation 0",

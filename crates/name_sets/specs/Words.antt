@@ -1,5 +1,5 @@
 -- Keys of tables: operations, and a number by which they are told apart first. A name is an operation of an object without a name.
-use Rattle.std.specs.Prelude.{ℕ, Bool, ◌&&◌, List, [], ◌∷◌, nat_eq}
+use Rattle.std.specs.Prelude.{ℕ, Bool, ◌&&◌, [], ◌∷◌, nat_eq}
 use Rattle.std.specs.Hash.FoldHasher.{finish, initial, write}
 use Rattle.seq_tree.specs.Calls.{same_op}
 use Rattle.seq_tree.specs.Names.{Name}

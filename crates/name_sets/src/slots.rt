@@ -225,7 +225,13 @@ impl<'a> Slots<'a> {
     }
 
     /// Gives an operation this number, whatever number it had. Without memory for it all is as before.
-    pub fn put(&mut self, alloc: Global, object: &'a [u8], name: &'a [u8], place: usize) -> Result<(), NoMemory>
+    pub fn put(
+        &mut self,
+        alloc: Global,
+        object: &'a [u8],
+        name: &'a [u8],
+        place: usize,
+    ) -> Result<(), NoMemory>
         ensures put { OnOk result ((n : OpName) → slot_in self.new n
             ≡ cond (same_op (record { object = object.entry.now; op = name.entry.now }) n) (Some place) (slot_in self.old n)) }
         ensures unchanged { OnErr result ((n : OpName) → slot_in self.new n ≡ slot_in self.old n) }

@@ -1,4 +1,4 @@
-use Rattle.std.proofs.Common.{◌∙◌, ◌≡◌, ℕ, List, true, cond, Option, Some, None, Bor, sym, ap, refl}
+use Rattle.std.proofs.Common.{◌∙◌, ◌≡◌, ℕ, List, true, cond, Option, Some, None, Bor, sym, ap}
 use Rattle.std.proofs.lemmas.Map.Text.{is_eq-slice_cmp}
 use Rattle.std.proofs.lemmas.Result.{err_from_is_err_and}
 use Rattle.std.proofs.lemmas.Slice.Eq.{bytes_eq-Decides}

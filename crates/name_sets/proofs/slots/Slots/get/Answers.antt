@@ -1,4 +1,4 @@
-use Rattle.std.proofs.Common.{◌≡◌, ◌∙◌, Some, None, sym, ap}
+use Rattle.std.proofs.Common.{◌∙◌, Some, sym, ap}
 use Rattle.seq_tree.specs.declared.tree.OpName.{OpName}
 use Rattle.name_sets.specs.Slots.{behind_in, first_or, other_in, slot_by, slot_in}
 use Rattle.name_sets.specs.Words.{key, key_of}

@@ -3,8 +3,8 @@ use Rattle.std.proofs.lemmas.Result.{err_from_is_err_and}
 use Rattle.seq_tree.specs.Calls.{same_op}
 use Rattle.seq_tree.specs.declared.tree.OpName.{OpName}
 use Rattle.name_sets.specs.FirstPlaces.{place_where}
-use Rattle.name_sets.specs.Slots.{Ordered, behind_in, first_or, names_of, pairs_of, slot_by, slot_in}
-use Rattle.name_sets.specs.Words.{Key, key, key_of, number_of, op_of, same_key}
+use Rattle.name_sets.specs.Slots.{behind_in, first_or, names_of, pairs_of, slot_by, slot_in}
+use Rattle.name_sets.specs.Words.{Key, key, key_of, same_key}
 use Rattle.name_sets.specs.declared.word.Word.{Word}
 use Rattle.name_sets.proofs.SlotSteps.{behind_law, first_law, key_law, no_place, one_op, other_law, pushed, renewed, same_law, slots_law, turned}
 use Rattle.name_sets.proofs.slots.Slots.put.Goals as goal

@@ -11,6 +11,7 @@ import re
 import subprocess
 import sys
 import tempfile
+from collections.abc import Callable
 
 TOP = os.path.dirname(os.path.dirname(os.path.dirname(os.path.abspath(__file__))))
 PROGRAM = os.environ.get('PROGRAM', os.path.join(TOP, 'crates', 'hrthood', 'out', 'hrthood'))
@@ -44,15 +45,21 @@ def chosen(*words: str) -> list[str]:
     return subprocess.run(command, capture_output=True, text=True, check=True).stdout.split()
 
 
+def ordinary_text(back: dict[str, str], text: str) -> str:
+    """Return a text with the ordinary names in place of those that collide."""
+    return re.sub(r'\bc[a-z]{7}\b', lambda word: back.get(word[0], word[0]), text)
+
+
 def main() -> None:
     """Try each design with each verb, and tell what differs."""
     ordinary = [f'f{1000000 + number}' for number in range(COUNT + 1)]
     tried = lost = 0
-    for words in ([], ['p'], ['p', '4']):
+    ways: list[list[str]] = [[], ['p'], ['p', '4']]
+    for words in ways:
         names = chosen(*words)
         assert len(set(names)) == COUNT + 1, 'the names differ from each other'
         back = dict(zip(names, ordinary))
-        cases = {
+        cases: dict[str, Callable[[list[str]], str]] = {
             'in order': lambda them: design(them[:-1], them[:-1] + them[:9]),
             'a call of none': lambda them: design(them[:-1], them[:-1] + them[-1:]),
             'a name twice': lambda them: design(them[:-1] + them[COUNT // 2:COUNT // 2 + 1], them[:-1]),
@@ -60,7 +67,7 @@ def main() -> None:
         for case, make in cases.items():
             for verb in ('check', 'format', 'analyse', 'generate'):
                 status, said, told = answer(verb, make(names))
-                renamed = tuple(re.sub(r'\bc[a-z]{7}\b', lambda word: back.get(word[0], word[0]), text) for text in (said, told))
+                renamed = tuple(ordinary_text(back, text) for text in (said, told))
                 tried += 1
                 expected = answer(verb, make(ordinary))
                 if (status, *renamed) != expected or (status == 0) != (case == 'in order' or verb == 'format'):

@@ -89,7 +89,7 @@ pushed k w p (e ∷ es) = by (same_key k (key_of e.0)) (pushed k w p es)
     by true rest = refl
     by false rest = rest
 
--- the number of an operation by what stands in the lists and in the maps
+-- the number of an operation by what the lists and the maps have
 pub slots_law : (few names : List (Word × ℕ)) (others : Ordered) (n : OpName)
     → slot_in (pairs_of few, pairs_of names, names_of others) n ≡ first_or (slot_by few (key n)) (behind_in names others n)
 unfolding slot_in

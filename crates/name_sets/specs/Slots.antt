@@ -14,7 +14,7 @@ use Rattle.name_sets.specs.declared.word.Word.{Word}
 abbrev pub Pairs : Type 0
 Pairs = List (Key × ℕ) × List (Key × ℕ) × List (Name × List (Name × ℕ))
 
--- what stands at a name, in the order of names
+-- what a name has, in the order of names
 abbrev pub at_name : {A : Type 0} → Name → List (Name × A) → Option A
 at_name name es = lookup (λ k. is_eq (slice_cmp nat_cmp name k)) es
 
@@ -23,7 +23,7 @@ abbrev pub first_or : Option ℕ → Option ℕ → Option ℕ
 first_or None other = other
 first_or (Some place) other = Some place
 
--- the number of an operation, where it has one
+-- the number of an operation, if any
 unfoldable pub slot_in : Pairs → OpName → Option ℕ
 slot_in t n =
     first_or (lookup (same_key (key n)) t.0) (first_or (lookup (same_key (key n)) t.1) (option_and_then (at_name n.op) (at_name n.object t.2)))
@@ -38,7 +38,7 @@ Ordered = BTreeMap (Bor (List ℕ)) (BTreeMap (Bor (List ℕ)) ℕ)
 abbrev pub names_of : Ordered → List (Name × List (Name × ℕ))
 names_of m = map (λ e. (e.0.now, map (λ f. (f.0.now, f.1)) e.1.entries)) m.entries
 
--- the number of a key by words, where it has one
+-- the number of a key by words, if any
 abbrev pub slot_by : List (Word × ℕ) → Key → Option ℕ
 slot_by es k = lookup (λ w. same_key k (key_of w)) es
 

@@ -15,7 +15,7 @@ use std::hash::BuildHasher;
 use std::marker::Model;
 
 /// Numbers by words: for each the one that was put last. The first few stand in a list, which is gone through by their numbers, and the
-/// others in an `IndexMap`, of which each pair of groups takes no more words than it has places. A word whose pair is full stands in an
+/// others in an `IndexMap`, of which each pair of groups takes no more words than it has places. A word whose pair is full goes to an
 /// ordered map, so that no words are slow to find, however they were chosen. Contracts see pairs of keys and numbers.
 #[derive(Drop)]
 pub(crate) struct Slots<'a> {
@@ -102,7 +102,7 @@ fn has_room(crowds: &[u8], pair: usize) -> bool {
     }
 }
 
-// The place in the list at which a word stands, where it does.
+// The place of a word in the list, if any.
 fn spot<'a>(few: &[(Word<'a>, usize)], word: Word<'a>) -> Option<usize>
     ensures first { result ≡ place_where (λ e. same_key (key_of word.entry) (key_of e.0)) 0 few.now }
     ensures within { IfSome result (λ spot. spot < length few.now) }
@@ -210,7 +210,7 @@ impl<'a> Slots<'a> {
         }
     }
 
-    /// The number of an operation, where it has one.
+    /// The number of an operation, if any.
     pub fn get(&self, object: &[u8], name: &[u8]) -> Option<usize>
         ensures { result ≡ slot_in self.now (record { object = object.now; op = name.now }) }
     {

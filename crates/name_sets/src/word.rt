@@ -6,7 +6,7 @@ ghost use Rattle.name_sets.specs.Words.{number_of, op_of};
 
 use std::hash::{FoldHasher, Hash, Hasher};
 
-/// A name, or the names of an object and of its operation, as a key of a table. Its number stands first, so that two keys that differ are
+/// A name, or the names of an object and of its operation, as a key of a table. Its number comes first, so that two keys that differ are
 /// hardly ever compared byte by byte.
 #[derive(Clone, Copy, PartialEq, Eq, PartialOrd, Ord)]
 pub(crate) struct Word<'a> {

@@ -3,7 +3,7 @@
 
     colliding_names.py COUNT [OBJECT] [BITS]
 
-Prints so many names of eight bytes, one a line, whose hashes agree in their lowest bits (ten, if not told), so that a hash table of up to
+Prints so many names of eight bytes, one a line, whose hashes agree in their lowest bits (ten, unless given), so that a hash table of up to
 so many groups begins its search for all of them at one place. With an object they collide as names of its operations, else as names alone.
 The hash is the kit's `FoldHasher`, as `Word` of `name_sets` uses it: once over the names, and once over the number that comes of that.
 """
@@ -26,7 +26,7 @@ def fold(left: int, right: int) -> int:
 
 
 def written(state: int, name: bytes) -> int:
-    """Return the state of the hasher behind at most eight bytes."""
+    """Return the state of the hasher after at most eight bytes."""
     size = len(name)
     if size >= 4:
         number = int.from_bytes(name[:4], 'little') | int.from_bytes(name[-4:], 'little') << 32

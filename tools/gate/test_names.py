@@ -51,7 +51,7 @@ def ordinary_text(back: dict[str, str], text: str) -> str:
 
 
 def main() -> None:
-    """Try each design with each verb, and tell what differs."""
+    """Try each design with each verb, and print what differs."""
     ordinary = [f'f{1000000 + number}' for number in range(COUNT + 1)]
     tried = lost = 0
     ways: list[list[str]] = [[], ['p'], ['p', '4']]

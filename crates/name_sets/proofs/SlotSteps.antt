@@ -78,7 +78,7 @@ no_place k s (e ∷ es) none = by (same_key k (key_of e.0)) (no_place k (suc s) 
     by true rest h = cc
     by false rest h = rest h
 
--- an item was put behind a list
+-- an item was appended to a list
 pub pushed : (k : Key) (w : Word) (p : ℕ) (es : List (Word × ℕ))
     → slot_by (es ++ (w, p) ∷ []) k ≡ first_or (slot_by es k) (cond (same_key k (key_of w)) (Some p) None)
 pushed k w p [] = refl
@@ -186,7 +186,7 @@ renewed k q p s (suc i) (e ∷ es) was place is = by (same_key k (key_of e.0)) r
         apart false true x y z = z
         apart false false x y z = z
 
--- an operation that the first has not was put behind it
+-- an operation that the first has not was appended to it
 pub behind_law : (b : Bool) (p : ℕ) (x other : Option ℕ) → (b ≡ true → x ≡ None)
     → first_or (first_or x (cond b (Some p) None)) other ≡ cond b (Some p) (first_or x other)
 behind_law true p x other absent = ap (λ o. first_or (first_or o (Some p)) other) (absent refl)

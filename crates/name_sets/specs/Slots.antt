@@ -46,6 +46,6 @@ slot_by es k = lookup (λ w. same_key k (key_of w)) es
 abbrev pub other_in : Ordered → OpName → Option ℕ
 other_in m n = option_and_then (λ names. get_by (λ k. slice_cmp nat_cmp n.op k.now) names) (get_by (λ k. slice_cmp nat_cmp n.object k.now) m)
 
--- that behind the first few
+-- that after the first few
 abbrev pub behind_in : List (Word × ℕ) → Ordered → OpName → Option ℕ
 behind_in names others n = first_or (slot_by names (key n)) (other_in others n)

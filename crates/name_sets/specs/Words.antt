@@ -1,4 +1,4 @@
--- Keys of tables: operations, and a number by which they are told apart first. A name is an operation of an object without a name.
+-- Keys of tables: operations, and a number by which they are compared first. A name is an operation of an object without a name.
 use Rattle.std.specs.Prelude.{ℕ, Bool, ◌&&◌, [], ◌∷◌, nat_eq}
 use Rattle.std.specs.Hash.FoldHasher.{finish, initial, write}
 use Rattle.seq_tree.specs.Calls.{same_op}

@@ -172,7 +172,7 @@ fn put_other<'a>(
     Ok(())
 }
 
-// Gives a word this number behind the list. Without memory for it all is as before.
+// Gives a word this number after the list. Without memory for it all is as before.
 fn put_behind<'a>(
     alloc: Global,
     names: &mut IndexMap<Word<'a>, usize>,

@@ -2,4 +2,6 @@ pub mod FirstPlaces
 pub mod OpPlaces
 pub mod Places
 pub mod Sets
+pub mod Slots
 pub mod Tables
+pub mod Words

@@ -384,7 +384,6 @@ function main() {
   stdin.on("data", (/** @type {Buffer} */ piece) => reader.add(piece));
   stdin.on("end", () => server.leave());
   stdout.on("error", () => exit(1)); // the editor has gone
-  for (const signal of ["SIGTERM", "SIGINT", "SIGHUP"]) process.on(signal, () => exit(1));
 }
 
 if (argv[1] !== undefined && realpathSync(argv[1]) === realpathSync(fileURLToPath(import.meta.url))) {

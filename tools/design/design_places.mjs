@@ -27,14 +27,22 @@ export class DesignText {
     return this.text.slice(token.index, behind(token));
   }
 
+  /** Returns the place of a token among all, by bisection. */
   placeOf(/** @type {Token} */ token) {
-    return this.tokens.findIndex(({ index }) => index === token.index);
+    let [low, high] = [0, this.tokens.length];
+    while (high - low > 1) {
+      const middle = (low + high) >> 1;
+      if (this.tokens[middle].index <= token.index) low = middle;
+      else high = middle;
+    }
+    return low;
   }
 
   /** Returns the end of the first `;` from a token on. */
   semicolon(/** @type {Token} */ token) {
-    const found = this.tokens.find(({ word, index }) => word === ";" && index >= token.index);
-    return found === undefined ? this.text.length : behind(found);
+    let place = this.placeOf(token);
+    while (place < this.tokens.length && this.tokens[place].word !== ";") place++;
+    return place < this.tokens.length ? behind(this.tokens[place]) : this.text.length;
   }
 
   /** Returns the end of what `end NAME ;` closes: a name, or `thread`, ends nothing inside. */

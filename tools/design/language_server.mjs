@@ -48,8 +48,8 @@ class Document {
   constructor(/** @type {string} */ uri, /** @type {number} */ version, /** @type {string} */ text) {
     this.uri = uri;
     this.version = version;
-    /** @type {Symbol[]} */
-    this.lastOutline = [];
+    /** @type {DesignText|null} */
+    this.lastDesign = null;
     /** @type {AbortController|null} */
     this.asked = null;
     /** @type {ReturnType<typeof setTimeout>|undefined} */
@@ -61,6 +61,7 @@ class Document {
     this.text = text;
     this.starts = [0, ...[...text.matchAll(/\r\n|\n|\r/g)].map((found) => (found.index ?? 0) + found[0].length)];
     this.tree = new DesignText(text);
+    if (this.tree.design !== null) this.lastDesign = this.tree;
     /** @type {Promise<string[]>|null} */
     this.lines = null;
   }
@@ -106,9 +107,7 @@ class Document {
 
   /** Returns the outline of the text, or of its last form that was a design. */
   outline() {
-    const outline = this.tree.outline();
-    if (outline.length > 0) this.lastOutline = outline;
-    return this.lastOutline.map((one) => this.symbol(one));
+    return (this.lastDesign?.outline() ?? []).map((one) => this.symbol(one));
   }
 
   /** @returns {object} */
@@ -274,7 +273,6 @@ class Server {
     const document = this.documentOf(params);
     document.version = params.textDocument.version;
     for (const change of params.contentChanges) document.change(change);
-    document.outline();
     this.judgeSoon(document, PAUSE);
   }
 
@@ -386,7 +384,6 @@ function main() {
   stdin.on("data", (/** @type {Buffer} */ piece) => reader.add(piece));
   stdin.on("end", () => server.leave());
   stdout.on("error", () => exit(1)); // the editor has gone
-  for (const signal of ["SIGTERM", "SIGINT", "SIGHUP"]) process.on(signal, () => exit(1));
 }
 
 if (argv[1] !== undefined && realpathSync(argv[1]) === realpathSync(fileURLToPath(import.meta.url))) {

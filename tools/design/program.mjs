@@ -26,6 +26,7 @@ process.on("exit", () => {
   for (const run of runs) run.kill();
   for (const room of rooms) rmSync(room, { recursive: true, force: true });
 });
+for (const [signal, number] of Object.entries({ SIGHUP: 1, SIGINT: 2, SIGTERM: 15 })) process.on(signal, () => process.exit(128 + number));
 
 /**
  * Runs the program with these arguments, and returns its status and what it wrote. If the signal aborts, the run ends without an answer.

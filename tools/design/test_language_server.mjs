@@ -300,6 +300,14 @@ async function trySlow() {
   equal((await client.answer(hover)).error?.code, -32800, "a cancelled hover");
   equal(await client.stop(), 0, "the end while a program runs");
   equal(readdirSync(client.room), [], "no temporary file stays");
+  const killed = new Client(script);
+  await killed.start();
+  killed.open("file:///slow.design", pump);
+  for (let count = 0; readdirSync(killed.room).length === 0 && count < 600; count++) await new Promise((resolve) => setTimeout(resolve, 100));
+  judge(readdirSync(killed.room).length === 1, "a run has its file");
+  killed.server.kill("SIGTERM");
+  equal(await killed.ended, 143, "the end by a signal");
+  equal(readdirSync(killed.room), [], "no temporary file stays after a signal");
 }
 
 async function tryEnds() {

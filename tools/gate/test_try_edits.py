@@ -96,6 +96,14 @@ class Lists(unittest.TestCase):
                     with open(os.path.join(TOP, 'crates', row['crate'], file), encoding='utf-8') as source:
                         self.assertEqual(source.read().count(old), 1)
 
+    def test_choice(self) -> None:
+        row = {'crate': 'c', 'edit': 'e', 'in_gate': 'no'}
+        self.assertFalse(try_edits.is_asked(row, [], False))
+        self.assertTrue(try_edits.is_asked(row, [], True))
+        self.assertTrue(try_edits.is_asked(row, ['c'], False))
+        self.assertTrue(try_edits.is_asked(row, ['c/e'], False))
+        self.assertFalse(try_edits.is_asked(row, ['c/f', 'd'], True))
+
     def test_rows_are_sorted(self) -> None:
         keys = [(row['crate'], row['edit']) for row in try_edits.read_rows()]
         self.assertEqual(keys, sorted(set(keys)))

@@ -1,20 +1,22 @@
 #!/usr/bin/env python3
 """Try the wrong bodies of docs/gate/edits.csv, each by a check of the function that it changes: the prover must refuse each.
 
-    try_edits.py                    try all; fail if one is not refused
+    try_edits.py                    try those that the list has for the gate; fail if one is not refused
+    try_edits.py --all              try all
     try_edits.py CRATE[/EDIT] ..    try those alone
     try_edits.py --jobs N ..        try N at a time (default: one for each processor)
     try_edits.py --times ..         write the seconds that each took into docs/gate/edits.csv
 
-`rt ci` tries the edits of must-fail/ by a check of their whole crate; a check of one function, with all that it calls, costs less, so that the
-wrong bodies that a reader thinks of first (docs/assurance/wrong_bodies.csv) are tried in each run of the gate. The libraries below must be
-built: the gate runs this behind `rt ci`.
+`rt ci` tries the edits of must-fail/ by a check of their whole crate; a check of one function, with all that it calls, costs less. The list has
+the wrong bodies that a reader thinks of first (docs/assurance/wrong_bodies.csv); the gate tries those that are `yes` in its column in_gate, behind
+`rt ci`, since the libraries below must be built.
 """
 from __future__ import annotations
 
 import argparse
 import concurrent.futures
 import csv
+import functools
 import importlib.machinery
 import importlib.util
 import os
@@ -42,7 +44,7 @@ def read_rows() -> list[Row]:
 def write_rows(rows: list[Row]) -> None:
     """Write the rows of the list."""
     with open(LIST, 'w', encoding='utf-8', newline='') as text:
-        out = csv.DictWriter(text, ['crate', 'edit', 'seconds'], lineterminator='\n')
+        out = csv.DictWriter(text, ['crate', 'edit', 'in_gate', 'seconds'], lineterminator='\n')
         out.writeheader()
         out.writerows(rows)
 
@@ -106,6 +108,8 @@ def load_kit() -> Any:
     assert spec
     module = importlib.util.module_from_spec(spec)
     loader.exec_module(module)
+    # Each sum is asked for by all crates above, and nothing changes meanwhile.
+    module.rtlib.Crate.stamp = functools.cache(module.rtlib.Crate.stamp)
     return module
 
 
@@ -138,9 +142,11 @@ def try_one(kit: Any, crate: Any, row: Row) -> tuple[str, int]:
     return verdict, round(time.monotonic() - begun)
 
 
-def is_asked(row: Row, names: list[str]) -> bool:
-    """Return whether a row is among the names, each a crate or CRATE/EDIT; all are if there are none."""
-    return not names or row['crate'] in names or f"{row['crate']}/{row['edit']}" in names
+def is_asked(row: Row, names: list[str], is_all: bool) -> bool:
+    """Return whether a row is among the names, each a crate or CRATE/EDIT; if there are none, whether it is for the gate or all are asked for."""
+    if not names:
+        return is_all or row['in_gate'] == 'yes'
+    return row['crate'] in names or f"{row['crate']}/{row['edit']}" in names
 
 
 def main() -> None:
@@ -149,9 +155,10 @@ def main() -> None:
     parser.add_argument('names', nargs='*', metavar='CRATE[/EDIT]')
     parser.add_argument('--jobs', type=int, default=os.cpu_count() or 1)
     parser.add_argument('--times', action='store_true')
+    parser.add_argument('--all', action='store_true')
     asked = parser.parse_args()
     rows = read_rows()
-    chosen = [row for row in rows if is_asked(row, asked.names)]
+    chosen = [row for row in rows if is_asked(row, asked.names, asked.all)]
     if not chosen:
         sys.exit('try_edits: there is no such edit in docs/gate/edits.csv')
     kit = load_kit()

@@ -410,7 +410,7 @@ describe("pictures", () => {
     const at = (ticks) => (ticks * tick) / 1000;
     const found = titlesOf(stdout);
     for (const title of [`${at(3)} to ${at(5)} ms: h blocked by l`, `h released at ${at(3)} ms, deadline ${at(12)} ms`,
-      `${at(11)} ms end h used ${at(6)} ms, response ${at(8)} ms, bound ${at(9)} ms`, "9 put h 8"]) {
+      `${at(11)} ms end h used ${at(6)} ms, response ${at(8)} ms, bound ${at(9)} ms`, `${at(9)} ms put h 8`]) {
       assert.ok(found.includes(title), `${title}: ${found}`);
     }
     assert.match(stdout, />ms 0 to /);

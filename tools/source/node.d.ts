@@ -39,6 +39,7 @@ declare module "node:path" {
   export const basename: any;
   export const delimiter: any;
   export const dirname: any;
+  export const isAbsolute: any;
   export const join: any;
   export const relative: any;
   export const resolve: any;

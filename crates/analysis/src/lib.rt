@@ -8,6 +8,7 @@
 //!
 //! - `CeilingLaws`: the ceiling of what a protected object calls is at least its own, and at least the priority of each thread that uses
 //!   it.
+//! - `CostRanges`: what a sound flat design costs: its operations, its calls and its blocking are at most the greatest cost.
 //! - `Nested`: protected operations inside protected operations, and a request inside one: tables, bounds and ceilings.
 #![tactic(auto)]
 

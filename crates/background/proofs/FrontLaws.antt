@@ -19,7 +19,7 @@ use Rattle.analysis.specs.Tables.{table}
 use Rattle.guarantee.specs.Programs.{program_for, head}
 use Rattle.design_bounds.specs.Rows.{named_at}
 use Rattle.law_designs.proofs.Shared.Lists.{from-map, in-filter_map, named-from, named-at, key-eq}
-use Rattle.law_calls.proofs.Shared.Lists.{IsIn, in-map, filter-in, in-filter}
+use Rattle.law_lists.proofs.Shared.Lists.{IsIn, in-map, filter-in, in-filter}
 use Rattle.background_designs.specs.Clients.{is_client, clients, is_client_name}
 use Rattle.background_designs.specs.HardParts.{hard_object, hard_part}
 use Rattle.background_designs.specs.Misfits.{A6, is_sporadic, slow_threads, requesting_clients}

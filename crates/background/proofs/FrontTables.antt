@@ -15,7 +15,7 @@ use Rattle.rt_response.specs.declared.rows.Miss as rows
 use Rattle.analysis.specs.Ceilings.{Ranks, written_ranks}
 use Rattle.analysis.specs.Tables.{table}
 use Rattle.guarantee.specs.Programs.{head, program_for}
-use Rattle.law_calls.proofs.Shared.Places.{all-at}
+use Rattle.law_lists.proofs.Shared.Places.{all-at}
 use Rattle.design_bounds.proofs.Shared.TablePlaces.{places-stand, rows-long, excess-at}
 use Rattle.background.specs.Fronts.{front_count, front_rows, front_places, name_at, front_name}
 use Rattle.background.specs.Makes.{text_for}

@@ -14,7 +14,7 @@ use Rattle.analysis.specs.Sound.{IsSound}
 use Rattle.design_rules.specs.Rules.{AreMet}
 use Rattle.design_bounds.proofs.Shared.RankLaws.{each-made}
 use Rattle.law_designs.proofs.Shared.RankRanges.{priority-range, ceiling-range, room}
-use Rattle.law_calls.proofs.Shared.Lists.{each-in, each-to}
+use Rattle.law_lists.proofs.Shared.Lists.{each-in, each-to}
 use Rattle.background_designs.specs.Programs.{at_least, raised}
 use Rattle.background.specs.Fronts.{is_slow, slow_count}
 use Rattle.background.specs.Makes.{HasRoom}

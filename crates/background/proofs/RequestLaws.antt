@@ -14,7 +14,7 @@ use Rattle.analysis.specs.Tables.{downwards, row_of, starter_of, table}
 use Rattle.law_designs.proofs.Shared.PriorityLists.{Entry, entry_by, entries, row_entry, rows-are, position-is}
 use Rattle.law_designs.proofs.Shared.PriorityPlaces.{entry-at}
 use Rattle.law_designs.proofs.Shared.TabledPrograms.{in-range, alone, all-entries}
-use Rattle.law_calls.proofs.Shared.Places.{map-at}
+use Rattle.law_lists.proofs.Shared.Places.{map-at}
 use Rattle.ods_index.specs.Judging.{head_of}
 use Rattle.ods_names.proofs.Shared.NeedSteps.{head_filter}
 use Rattle.background_designs.specs.Misfits.{A6, is_sporadic}

@@ -10,7 +10,7 @@ use Rattle.analysis.specs.Priorities.{priorities_of}
 use Rattle.design_rules.specs.Rules.{AreMet}
 use Rattle.design_bounds.proofs.Shared.RankLaws.{each-made}
 use Rattle.law_designs.proofs.Shared.RankRanges.{priority-range, ceiling-range, room}
-use Rattle.law_calls.proofs.Shared.Lists.{each-in}
+use Rattle.law_lists.proofs.Shared.Lists.{each-in}
 use Rattle.bridge.specs.Makes.{HasRoom}
 
 module _ (x : Design) (met : AreMet x x) where

@@ -35,7 +35,7 @@ use Rattle.guarantee.specs.Programs.{program}
 use Rattle.guarantee.proofs.Shared.Same.{program-software}
 use Rattle.law_calls.proofs.Shared.Bodies.{costs-cover}
 use Rattle.law_calls.proofs.Shared.Rings.{no-ring}
-use Rattle.law_calls.proofs.Shared.Lists.{each-append, each-by}
+use Rattle.law_lists.proofs.Shared.Lists.{each-append, each-by}
 use Rattle.trace_scripts.specs.Scenes.{AllBlocks, AllIn}
 
 -- numbers of `work`

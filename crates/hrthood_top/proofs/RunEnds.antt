@@ -21,7 +21,7 @@ use Rattle.machine.specs.Steps.{goes_to, effect_of, effect_at, effect_step, is_d
 use Rattle.machine.specs.Steps.{step_in, step}
 use Rattle.machine.specs.Meanings.{run, Meaning}
 use Rattle.machine.proofs.Shared.RunLaws.{stopped_stays}
-use Rattle.law_calls.proofs.Shared.Lists.{each-append}
+use Rattle.law_lists.proofs.Shared.Lists.{each-append}
 use Rattle.law_ceilings.specs.Ceilings.{GoesOn}
 use Rattle.hrthood_top.specs.Violations.{RunsOut, EndsAt, Violation}
 

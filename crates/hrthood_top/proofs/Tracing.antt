@@ -20,7 +20,7 @@ use Rattle.ceil_runtime.specs.Shown.{IsWhole, running_of}
 use Rattle.ceil_runtime.proofs.Shared.Standing.{within-horizon, before-horizon}
 use Rattle.ceil_runtime.specs.Turns.{EndsWith, is_last}
 use Rattle.law_ceilings.specs.Ceilings.{GoesOn}
-use Rattle.law_calls.proofs.Shared.Lists.{each-append}
+use Rattle.law_lists.proofs.Shared.Lists.{each-append}
 use Rattle.seq_tree.specs.Lists.{Each}
 use Rattle.trace_tree.specs.Placed.{IsPlaced, IsUnit}
 use Rattle.hrthood_top.specs.declared.violation.Violation as values

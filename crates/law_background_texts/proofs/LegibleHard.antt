@@ -7,7 +7,7 @@ use Rattle.ods_tree.specs.Walk.{Standing, objects}
 use Rattle.ada_tree.specs.Programs.{Form, Unit, Passive, Shared, Cyclic, Sporadic}
 use Rattle.ada_print.specs.Writable.{is_word, is_number}
 use Rattle.law_designs.proofs.Shared.Lists.{from-map}
-use Rattle.law_calls.proofs.Shared.Lists.{IsIn}
+use Rattle.law_lists.proofs.Shared.Lists.{IsIn}
 use Rattle.law_texts.proofs.Shared.LegibleObjects.{IsLegibleObject}
 use Rattle.law_texts.proofs.Shared.LegibleUnits.{IsLegibleForm, IsLegibleUnit}
 use Rattle.background_designs.specs.Clients.{is_client, is_server}

@@ -25,7 +25,7 @@ use Rattle.law_designs.proofs.Shared.ObjectNames.{terminal-names}
 use Rattle.law_designs.proofs.Shared.Blocks.{thread-needed}
 use Rattle.law_designs.proofs.Shared.Starting.{can-same}
 use Rattle.law_designs.proofs.Shared.Started.{threaded, service-count}
-use Rattle.law_calls.proofs.Shared.Lists.{IsIn, in-map, filter-in, in-filter, flat-same}
+use Rattle.law_lists.proofs.Shared.Lists.{IsIn, in-map, filter-in, in-filter, flat-same}
 use Rattle.background_designs.specs.Clients.{is_client, is_server, clients, is_client_name}
 use Rattle.background_designs.specs.HardParts.{soft_object, cyclic_client, protected_server, hard_object, hard_part}
 use Rattle.background_designs.specs.Misfits.{Misfit, A6, is_sporadic, requesting_clients}

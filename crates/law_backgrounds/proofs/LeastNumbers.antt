@@ -14,8 +14,8 @@ use Rattle.guarantee.specs.Software.{Task, guarded_by, task_by, program_software
 use Rattle.guarantee.specs.ResponseLaw.{Ranked, ranked, priority_of, ceiling_of, ceiling_named}
 use Rattle.law_calls.proofs.Shared.Apart.{one-unit}
 use Rattle.law_calls.proofs.Shared.UnitRules.{numbers-kept}
-use Rattle.law_calls.proofs.Shared.Facts.{same-self, same-is}
-use Rattle.law_calls.proofs.Shared.Lists.{IsIn, each-in, in-made, found-in, place-of}
+use Rattle.law_lists.proofs.Shared.Facts.{same-self, same-is}
+use Rattle.law_lists.proofs.Shared.Lists.{IsIn, each-in, in-made, found-in, place-of}
 use Rattle.law_designs.proofs.Shared.Lists.{found-some}
 
 some : (n : ℕ) → is_outside 1 60 n ≡ false → 1 ≤ n

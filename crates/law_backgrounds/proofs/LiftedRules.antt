@@ -24,8 +24,8 @@ use Rattle.ada_tree.specs.Rules.{Rule, Naming, Uses, Rings, Bodies, Ranges, Exte
 use Rattle.ada_tree.specs.Proper.{IsProperForm}
 use Rattle.ada_tree.specs.Words.{is_ada_name}
 use Rattle.guarantee.specs.MachineLaw.{IsReadable}
-use Rattle.law_calls.proofs.Shared.Lists.{each-map, each-to, flat-same}
-use Rattle.law_calls.proofs.Shared.Places.{mapped-at}
+use Rattle.law_lists.proofs.Shared.Lists.{each-map, each-to, flat-same}
+use Rattle.law_lists.proofs.Shared.Places.{mapped-at}
 use Rattle.law_backgrounds.proofs.Shared.Lifts.{unless, lift_form, lift_unit, lifted, map-through, flat-through, filter-through, any-same}
 use Rattle.law_backgrounds.proofs.Shared.Lifts.{any-through}
 use Rattle.law_backgrounds.proofs.Shared.Lifts.{take-map, length-map}

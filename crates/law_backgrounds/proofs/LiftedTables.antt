@@ -24,9 +24,9 @@ use Rattle.analysis.specs.Starts.{can_request, block_starts}
 use Rattle.guarantee.specs.Software.{Task, program_software, library_by, guarded_by, task_by}
 use Rattle.guarantee.specs.ResponseLaw.{Ranked, ranked, priority_of, ceiling_of, ceiling_named, program_services, task_sections, is_among, Falls}
 use Rattle.guarantee.specs.ResponseLaw.{IsBelowCeiling, CallsUpwards, IsStarted, AreTabled}
-use Rattle.law_calls.proofs.Shared.Facts.{same-self}
-use Rattle.law_calls.proofs.Shared.Lists.{each-map, each-to, each-by, any-in, at-in}
-use Rattle.law_calls.proofs.Shared.Places.{map-at, all-at}
+use Rattle.law_lists.proofs.Shared.Facts.{same-self}
+use Rattle.law_lists.proofs.Shared.Lists.{each-map, each-to, each-by, any-in, at-in}
+use Rattle.law_lists.proofs.Shared.Places.{map-at, all-at}
 use Rattle.law_backgrounds.proofs.Shared.Lifts.{unless, lift_form, lift_unit, lifted}
 
 -- a timing, released at once or not

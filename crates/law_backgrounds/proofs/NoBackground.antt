@@ -42,8 +42,8 @@ use Rattle.law_designs.proofs.Shared.ObjectRules.{no-clash, operations-right}
 use Rattle.law_designs.proofs.Shared.ObjectNames.{object-names, op-names}
 use Rattle.law_designs.proofs.Shared.Resolving.{Ends, resolve-ends}
 use Rattle.law_designs.proofs.Shared.Blocks.{kept}
-use Rattle.law_calls.proofs.Shared.Facts.{same-self, same-is}
-use Rattle.law_calls.proofs.Shared.Lists.{IsIn, in-left, in-right, found-in, none-in, filter-in}
+use Rattle.law_lists.proofs.Shared.Facts.{same-self, same-is}
+use Rattle.law_lists.proofs.Shared.Lists.{IsIn, in-left, in-right, found-in, none-in, filter-in}
 use Rattle.background_designs.specs.Clients.{is_hser, is_client, is_server, clients, is_client_name}
 use Rattle.background_designs.specs.Misfits.{A1, A2, A3, A4, A6, is_such, has_foreign_parent, misfit_actives, foreign_waits, foreign_servers}
 use Rattle.background_designs.specs.Misfits.{background_requests, slow_threads, misfits, is_sporadic, requesting_clients}

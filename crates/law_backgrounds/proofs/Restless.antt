@@ -12,7 +12,7 @@ use Rattle.machine.specs.Effects.{ended, resting}
 use Rattle.machine.specs.Steps.{is_due}
 use Rattle.guarantee.specs.Events.{Release, End, Event, By, Horizon}
 use Rattle.guarantee.specs.Events as names
-use Rattle.law_calls.proofs.Shared.Facts.{same-self}
+use Rattle.law_lists.proofs.Shared.Facts.{same-self}
 use Rattle.law_releases.proofs.Shared.Carrying.{SameFace, IsElse, IsCarried}
 use Rattle.background_designs.specs.Turns.{Turn, Begun, Ended, turns, AreAtOnce}
 

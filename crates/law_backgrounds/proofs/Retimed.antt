@@ -17,7 +17,7 @@ use Rattle.guarantee.specs.Steps.{steps_of, placed, moments}
 use Rattle.guarantee.specs.Scripts.{Activation, grouped, IsWhole, IsCharged, IsBegun, AreRuns, FollowsBlock, released_vars}
 use Rattle.guarantee.specs.Passages.{Passage, Into, Out, passages, IsBody, IsBodyBegun, IsServed, AreOneByOne, ServesOneByOne}
 use Rattle.guarantee.specs.Allowed.{DoesAsWritten}
-use Rattle.law_calls.proofs.Shared.Lists.{each-map, each-to}
+use Rattle.law_lists.proofs.Shared.Lists.{each-map, each-to}
 use Rattle.law_backgrounds.proofs.Shared.Lifts.{any-through}
 use Rattle.law_backgrounds.proofs.LiftedTables.{retime, retask, made-same, find-through, each-unmap}
 

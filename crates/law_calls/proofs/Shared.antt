@@ -4,19 +4,14 @@ pub mod Apart
 pub mod Bodies
 pub mod Callees
 pub mod Costs
-pub mod Depths
-pub mod Facts
 pub mod Instants
-pub mod Lists
 pub mod Live
 pub mod Named
 pub mod Nominals
 pub mod Outside
 pub mod Passives
 pub mod Pieces
-pub mod Places
 pub mod RankedTasks
-pub mod Reaching
 pub mod Remaining
 pub mod Requests
 pub mod Resolved
@@ -29,4 +24,3 @@ pub mod Tasks
 pub mod Threads
 pub mod UnitNames
 pub mod UnitRules
-pub mod Weights

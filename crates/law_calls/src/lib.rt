@@ -15,10 +15,7 @@
 //! - `Callees`: what a call of a program leads to, on the processor and by the texts: the same, where the units have names of their own.
 //! - `Costs`: on the processor what a call costs covers what it leads to, also where protected bodies call further: it is enough that no
 //!   operation leads to itself.
-//! - `Depths`: where nodes lead to each other in no ring, they go no deeper than there are nodes.
-//! - `Facts`: small facts: faults that are none, names that are the same, and the first item that passes a test.
 //! - `Instants`: what releases and effects keep of a state: the time, the part of the instant, the task that ran and the arrivals.
-//! - `Lists`: items of lists: those that are made of numbered items, those that a test finds, and those of lists in lists.
 //! - `Live`: the calls of a block that are made at all, outside loops of no turn, are among its calls.
 //! - `Named`: what a call leads to, by the names of a program's operations: its sort, its body, and the ceiling of its unit.
 //! - `Nominals`: the times and nominal times of the arrivals for a task, as one more arrival comes.
@@ -27,9 +24,7 @@
 //! - `Passives`: passive operations call each other in no ring, and so no deeper than there are operations.
 //! - `Pieces`: the pieces that a task has left: whether they stand inside a loop, and what does not depend on those that a loop that is
 //!   left passes over.
-//! - `Places`: items of a list by their places: as one of them changes, as the list grows at its end, and in lists that are made of others.
 //! - `RankedTasks`: a task that runs is one of the tasks of its program, with its priority.
-//! - `Reaching`: what nodes lead to through as many steps as there are nodes is closed: what it leads to is among it.
 //! - `Remaining`: what the pieces left to a task may still take, by any weights: the dearest way through them, the bodies of calls among
 //!   them.
 //! - `Requests`: what tasks can call, in their blocks or through protected operations: it is closed under what the bodies of protected
@@ -49,7 +44,6 @@
 //! - `UnitNames`: units by their names: where names differ, what is made of the units is found by the one unit of a name.
 //! - `UnitRules`: what the rules of a program say of its units: bodies have no fault, passive ones call passive operations alone, numbers
 //!   are in their ranges.
-//! - `Weights`: what is counted along the dearest path of a block depends on what its calls count alone, and rises with it.
 #![tactic(auto)]
 
 ghost use Rattle.law_calls.specs.CallLaws.{CallsEnd, CostsCoverCalls, SectionsCoverCalls, ReachCoversCalls, StartsCoverCalls, ProgramsHaveNoRing};

@@ -23,7 +23,7 @@ use Rattle.machine.specs.Meanings.{run}
 use Rattle.law_ceilings.specs.Sections.{Stands, IsNumbered}
 use Rattle.law_ceilings.proofs.OrderNumbers.{last-above, last-else, first-below, first-else}
 use Rattle.law_ceilings.proofs.Shared.Keeping.{going-is}
-use Rattle.law_calls.proofs.Shared.Places.{changed}
+use Rattle.law_lists.proofs.Shared.Places.{changed}
 
 -- ready tasks of one number are one
 abbrev pub Differ : List Task → List ℤ → Type 0

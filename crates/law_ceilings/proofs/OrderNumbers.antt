@@ -5,7 +5,7 @@ use Rattle.std.proofs.Common.{subst, arith}
 use Rattle.std.proofs.lemmas.Int.{ints, fold-int_max_bounds, fold-int_min_bounds}
 use Rattle.std.proofs.lemmas.Option.{none-some, same_Some, slice_get_within, get_or_from_slice_get}
 use Rattle.machine.specs.Dispatch.{put_last, put_first}
-use Rattle.law_calls.proofs.Shared.Places.{set-at, set-else, length-set'}
+use Rattle.law_lists.proofs.Shared.Places.{set-at, set-else, length-set'}
 
 -- numbers are at most the greatest and at least the least
 all-get : (P : ℤ → Type 0) (xs : List ℤ) (j : ℕ) (p : ℤ) → All P xs → slice_get xs j ≡ Some p → P p

@@ -5,8 +5,8 @@ use Rattle.std.specs.List.{list_any}
 use Rattle.std.proofs.Common.{sym, ap, ap₂, subst, arith, inl, inr}
 use Rattle.std.proofs.lemmas.Option.{none-some, same_Some}
 use Rattle.seq_tree.specs.Rings.{LeadsTo, IsOnRing}
-use Rattle.law_calls.proofs.Shared.Lists.{IsIn, in-filter, filter-in}
-use Rattle.law_calls.proofs.Shared.Depths.{Step, IsDeep, deep-all, settles}
+use Rattle.law_lists.proofs.Shared.Lists.{IsIn, in-filter, filter-in}
+use Rattle.law_lists.proofs.Shared.Depths.{Step, IsDeep, deep-all, settles}
 
 -- the nodes below a number
 abbrev below : ℕ → List ℕ

@@ -29,9 +29,9 @@ use Rattle.law_ceilings.proofs.Shared.Keeping.{going-is}
 use Rattle.law_ceilings.proofs.Shared.Passing.{Face, face, faces, faces-same, out_of, released-face, exit-faces}
 use Rattle.law_ceilings.proofs.Shared.Excluding.{face-at, at-face, falls-text}
 use Rattle.law_ceilings.proofs.Shared.Turning.{among-there}
-use Rattle.law_calls.proofs.Shared.Facts.{first-where}
-use Rattle.law_calls.proofs.Shared.Places.{changed}
-use Rattle.law_calls.proofs.Shared.Lists.{each-drop}
+use Rattle.law_lists.proofs.Shared.Facts.{first-where}
+use Rattle.law_lists.proofs.Shared.Places.{changed}
+use Rattle.law_lists.proofs.Shared.Lists.{each-drop}
 use Rattle.std.proofs.lemmas.Bool.{false≢true}
 
 -- free sections stay so where the faces are the same

@@ -10,8 +10,8 @@ use Rattle.seq_tree.specs.Calls.{block_calls}
 use Rattle.seq_tree.specs.Dearest.{turn_count}
 use Rattle.seq_tree.specs.declared.tree.OpName.{OpName}
 use Rattle.analysis.specs.Sections.{live_statement, live_calls, live_branches}
-use Rattle.law_calls.proofs.Shared.Facts.{or_else-none, not-fault}
-use Rattle.law_calls.proofs.Shared.Lists.{IsIn, in-left, in-right}
+use Rattle.law_lists.proofs.Shared.Facts.{or_else-none, not-fault}
+use Rattle.law_lists.proofs.Shared.Lists.{IsIn, in-left, in-right}
 use Rattle.law_calls.proofs.Shared.Live.{live-in}
 use Rattle.law_ceilings.specs.Bodies.{Where, StatementFits, BlockFits, BranchesFit}
 

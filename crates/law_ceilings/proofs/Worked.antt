@@ -29,9 +29,9 @@ use Rattle.machine.specs.States.{State, Task, Phase, Effects, Delays, Arriving, 
 use Rattle.machine.specs.Meanings.{Meaning, run, start}
 use Rattle.machine.specs.Steps.{step}
 use Rattle.guarantee.specs.ResponseLaw.{Ranked, AreTabled}
-use Rattle.law_calls.proofs.Shared.Facts.{same-is}
-use Rattle.law_calls.proofs.Shared.Lists.{IsIn, any-at, in-some, in-filter, place-of}
-use Rattle.law_calls.proofs.Shared.Reaching.{among-is}
+use Rattle.law_lists.proofs.Shared.Facts.{same-is}
+use Rattle.law_lists.proofs.Shared.Lists.{IsIn, any-at, in-some, in-filter, place-of}
+use Rattle.law_lists.proofs.Shared.Reaching.{among-is}
 use Rattle.law_ceilings.specs.Premises.{MayExclude}
 use Rattle.law_ceilings.specs.Ceilings.{IsCeiled}
 use Rattle.law_ceilings.specs.Limits.{IsLimited, IsPendingIn, IsPendingThrough, others}

@@ -8,7 +8,7 @@ use Rattle.ods_tree.specs.Walk.{only_if}
 use Rattle.guarantee.specs.Events.{Release, Arrive, Enter, Leave, Request, Print, End, Stop, Event, By, Horizon}
 use Rattle.guarantee.specs.Requests.{Asked, Taken, Done, Pending, notices}
 use Rattle.guarantee.specs.Bounded.{Either, EndsBy}
-use Rattle.law_calls.proofs.Shared.Lists.{each-to}
+use Rattle.law_lists.proofs.Shared.Lists.{each-to}
 use Rattle.law_chains.specs.AtOnce.{AreServedAtOnce}
 use Rattle.law_chains.specs.Chains.{Leads, Starts, ChainResponds}
 use Rattle.law_chains.proofs.Shared.ChainSteps.{either_map, ends-later, served-if, asked}

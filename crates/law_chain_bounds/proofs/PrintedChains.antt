@@ -36,8 +36,8 @@ use Rattle.guarantee.specs.MachineLaw.{IsReadable}
 use Rattle.guarantee.specs.Programs.{program, responses}
 use Rattle.guarantee.specs.ResponseLaw.{Ranked, AreTabled, times_of}
 use Rattle.guarantee.specs.ResponseLaw as law
-use Rattle.law_calls.proofs.Shared.Lists.{each-append, each-to, zip-second}
-use Rattle.law_calls.proofs.Shared.Places.{map-at, mapped-at, same-item, zip-at}
+use Rattle.law_lists.proofs.Shared.Lists.{each-append, each-to, zip-second}
+use Rattle.law_lists.proofs.Shared.Places.{map-at, mapped-at, same-item, zip-at}
 use Rattle.law_chains.specs.Chains.{ChainResponds, total}
 use Rattle.law_designs.proofs.Shared.PriorityLists.{entries, ranked_entry, row_entry, in_order, rows-are}
 use Rattle.law_designs.proofs.Shared.ReadablePrograms.{program-readable}

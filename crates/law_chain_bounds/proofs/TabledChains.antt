@@ -9,8 +9,8 @@ use Rattle.guarantee.specs.Bounded.{Response}
 use Rattle.guarantee.specs.Events.{Event, named}
 use Rattle.guarantee.specs.Requests.{notices}
 use Rattle.guarantee.specs.ResponseLaw.{Ranked, times_of}
-use Rattle.law_calls.proofs.Shared.Lists.{each-to, each-map}
-use Rattle.law_calls.proofs.Shared.Places.{all-at}
+use Rattle.law_lists.proofs.Shared.Lists.{each-to, each-map}
+use Rattle.law_lists.proofs.Shared.Places.{all-at}
 use Rattle.law_chains.specs.AtOnce.{AreServedAtOnce, IsServedAtOnce}
 use Rattle.law_responses.specs.Resting.{RestsBy}
 use Rattle.law_responses.proofs.Shared.LevelLaw.{levels-of-tasks-rest}

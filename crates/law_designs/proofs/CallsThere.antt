@@ -18,8 +18,8 @@ use Rattle.law_designs.proofs.Renaming.{offers_it}
 use Rattle.law_designs.proofs.Shapes.{counted_name, Right, calls-counted, calls-right}
 use Rattle.law_designs.proofs.Shared.Offers.{Fitting}
 use Rattle.law_designs.proofs.Shared.Units.{bodies-right}
-use Rattle.law_calls.proofs.Shared.Facts.{or_else-none}
-use Rattle.law_calls.proofs.Shared.Lists.{any-in, IsIn, in-some, found-in}
+use Rattle.law_lists.proofs.Shared.Facts.{or_else-none}
+use Rattle.law_lists.proofs.Shared.Lists.{any-in, IsIn, in-some, found-in}
 
 -- each body of those without a fault has none
 each-faultless : (p : Program) (form : Form) (bs : List Body) → bodies_fault p form bs ≡ None → (b : Body) → IsIn b bs

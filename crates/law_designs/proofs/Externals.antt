@@ -41,8 +41,8 @@ use Rattle.law_designs.proofs.Shared.Starting.{MeantName, Inside, Silent, inside
 use Rattle.law_designs.proofs.Shared.Started.{Asked, asked-op, all-started}
 use Rattle.law_designs.proofs.Shared.Offers.{Fitting, offer_by, offers-are}
 use Rattle.law_designs.proofs.Shared.Units.{UnitFrom, OfLibrary, OfGuarded, OfThread, unit-from, from-zip}
-use Rattle.law_calls.proofs.Shared.Facts.{same-is, is-same}
-use Rattle.law_calls.proofs.Shared.Lists.{in-left, in-right, in-map, in-flat, filter-in, in-filter, any-in, IsIn, in-some, found-in}
+use Rattle.law_lists.proofs.Shared.Facts.{same-is, is-same}
+use Rattle.law_lists.proofs.Shared.Lists.{in-left, in-right, in-map, in-flat, filter-in, in-filter, any-in, IsIn, in-some, found-in}
 use Rattle.std.proofs.lemmas.Slice.Zip.{length-zip}
 
 -- a thing of a list stands in its pairs with one as long

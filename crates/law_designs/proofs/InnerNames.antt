@@ -7,7 +7,7 @@ use Rattle.ods_tree.specs.Walk.{Standing, objects}
 use Rattle.design_rules.specs.Clashes.{Role, Single, Member, Parameter, Local, Loop, Mention, excludes, mention, object_mentions, mentions, clashes}
 use Rattle.law_designs.proofs.Shared.Lists.{placed}
 use Rattle.law_designs.proofs.Shared.ObjectNames.{inner_mentions, pair-free}
-use Rattle.law_calls.proofs.Shared.Lists.{in-flat, IsIn}
+use Rattle.law_lists.proofs.Shared.Lists.{in-flat, IsIn}
 
 -- a role of a name inside an object
 abbrev pub IsInner : Role → Type 0

@@ -11,8 +11,8 @@ use Rattle.design_rules.specs.Clashes.{Role, Mention, excludes, statement_loops,
 use Rattle.ada_tree.specs.Naming as naming
 use Rattle.law_designs.proofs.Shared.Lists.{in-cases, unnamed-from, unnamed-at}
 use Rattle.law_designs.proofs.Shared.ObjectNames.{free-head, first-free, rest-free}
-use Rattle.law_calls.proofs.Shared.Facts.{is-same}
-use Rattle.law_calls.proofs.Shared.Lists.{in-left, in-right, none-in, IsIn}
+use Rattle.law_lists.proofs.Shared.Facts.{is-same}
+use Rattle.law_lists.proofs.Shared.Lists.{in-left, in-right, none-in, IsIn}
 
 module _ (role : Role) where
   -- a loop where it is declared

@@ -36,7 +36,7 @@ use Rattle.law_designs.proofs.ObjectMentions.{IsMember, OfOp, OfVar, op-member, 
 use Rattle.law_designs.proofs.ObjectMentions.{op-var-apart, body-names, member-param-apart, member-local-apart, param-local-apart}
 use Rattle.law_designs.proofs.ObjectMentions as part
 use Rattle.law_designs.proofs.UnitObjects.{UnitObject, unit-object}
-use Rattle.law_calls.proofs.Shared.Lists.{in-left, in-right, at-in, IsIn, in-some}
+use Rattle.law_lists.proofs.Shared.Lists.{in-left, in-right, at-in, IsIn, in-some}
 
 -- the names of units are those of the entries
 guarded-names : (gs : List Guarded) (cs : List ℕ) → length cs ≡ length gs → map (λ (u : Unit). u.name) (map shared_unit (zip gs cs))

@@ -32,8 +32,8 @@ use Rattle.law_designs.proofs.Shared.ObjectNames.{terminal-names}
 use Rattle.law_designs.proofs.Shared.Served.{service-object}
 use Rattle.law_designs.proofs.Shared.Blocks.{Needed, AreNeeded, needed-call, body-needed}
 use Rattle.law_designs.proofs.WellFormed.{passive-plain-calls}
-use Rattle.law_calls.proofs.Shared.Facts.{same-is, is-same}
-use Rattle.law_calls.proofs.Shared.Lists.{in-map, in-flat, filter-in, any-in, IsIn, place-of, found-in}
+use Rattle.law_lists.proofs.Shared.Facts.{same-is, is-same}
+use Rattle.law_lists.proofs.Shared.Lists.{in-map, in-flat, filter-in, any-in, IsIn, place-of, found-in}
 
 -- a ring of one relation is one of another that has its steps
 pub leads-map : {A : Type 0} (R S : A → A → Type 0) → ((a b : A) → R a b → S a b) → (a : A) (path : List A) (b : A) → LeadsTo R a path b

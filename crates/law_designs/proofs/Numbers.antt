@@ -18,7 +18,7 @@ use Rattle.design_rules.specs.Numbers.{is_required, is_optional, is_foreign, are
 use Rattle.design_rules.specs.Rules.{AreMet}
 use Rattle.law_designs.proofs.Shared.Flattened.{thread-from, TimingOf, OfCyclic, OfSporadic, timing-of, terminal-object}
 use Rattle.law_designs.proofs.Shared.ObjectRules.{numbers-right}
-use Rattle.law_calls.proofs.Shared.Lists.{IsIn}
+use Rattle.law_lists.proofs.Shared.Lists.{IsIn}
 
 -- an attribute that isn't there, and one that is
 find-none : (test : Attr → Bool) (attrs : List Attr) → length (filter test attrs) ≡ 0 → find test attrs ≡ None

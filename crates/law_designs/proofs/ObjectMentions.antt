@@ -21,8 +21,8 @@ use Rattle.ada_tree.specs.Bodies as ada
 use Rattle.law_designs.proofs.Shared.Lists.{from-map, placed, named-from, unnamed-from}
 use Rattle.law_designs.proofs.Shared.ObjectNames.{free-head, later-free, rest-free, first-free, pair-free, inner_mentions, same-place}
 use Rattle.law_designs.proofs.LoopNames.{loop}
-use Rattle.law_calls.proofs.Shared.Facts.{same-is, same-self}
-use Rattle.law_calls.proofs.Shared.Lists.{in-left, in-right, in-map, in-flat, filter-in, IsIn, found-in}
+use Rattle.law_lists.proofs.Shared.Facts.{same-is, same-self}
+use Rattle.law_lists.proofs.Shared.Lists.{in-left, in-right, in-map, in-flat, filter-in, IsIn, found-in}
 
 -- a part of what is mentioned, without clashes behind what comes before it
 pub record FreePart (earlier ms : List Mention) : Type 0 where

@@ -29,8 +29,8 @@ use Rattle.law_designs.proofs.WellFormed.{passive-plain-calls}
 use Rattle.law_designs.proofs.Shared.Blocks.{body-needed}
 use Rattle.law_designs.proofs.NoRings.{leads-map, leads-first, no-call-ring, no-object-ring}
 use Rattle.law_designs.proofs.Shared.Units.{UnitFrom, OfLibrary, OfGuarded, OfThread, unit-from, from-zip}
-use Rattle.law_calls.proofs.Shared.Facts.{same-is, is-same}
-use Rattle.law_calls.proofs.Shared.Lists.{in-left, in-right, in-map, in-flat, filter-in, in-filter, any-in, IsIn, in-some, in-made, found-in}
+use Rattle.law_lists.proofs.Shared.Facts.{same-is, is-same}
+use Rattle.law_lists.proofs.Shared.Lists.{in-left, in-right, in-map, in-flat, filter-in, in-filter, any-in, IsIn, in-some, in-made, found-in}
 
 -- a plain service is an operation of a passive object
 pub plain-library : (f : Flat) (v : Service) → IsIn v (flat_services f) → v.sort ≡ Plain → (l : Library) × IsIn l f.passive × IsIn v.op l.ops

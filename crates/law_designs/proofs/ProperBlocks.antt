@@ -11,7 +11,7 @@ use Rattle.seq_tree.specs.Proper.{AreProperBranches, within_limits}
 use Rattle.seq_tree.specs.declared.tree.OpName.{OpName}
 use Rattle.ods_tree.specs.Links.{renamed_statement, renamed, renamed_branches}
 use Rattle.design_rules.specs.Words.{expression_names, statement_names, block_names, branch_names}
-use Rattle.law_calls.proofs.Shared.Lists.{in-left, in-right, IsIn}
+use Rattle.law_lists.proofs.Shared.Lists.{in-left, in-right, IsIn}
 
 nests : (d e : ℕ) → e ≤ d → nat_le d 64 ≡ true → nat_le e 64 ≡ true
 nests d e h k = grind arith

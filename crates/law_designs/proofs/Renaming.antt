@@ -21,7 +21,7 @@ use Rattle.seq_tree.specs.declared.tree.OpName.{OpName}
 use Rattle.ods_tree.specs.Links.{renamed_statement, renamed, renamed_branches}
 use Rattle.design_rules.specs.Fittings.{same_mode, same_params}
 use Rattle.ada_tree.specs.Naming.{statement_loops, block_loops, branch_loops, statement_clashes, block_clashes, branch_clashes}
-use Rattle.law_calls.proofs.Shared.Facts.{or_else-none}
+use Rattle.law_lists.proofs.Shared.Facts.{or_else-none}
 
 module _ (means : OpName → OpName) where
   -- what is called

@@ -18,8 +18,8 @@ use Rattle.ods_tree.specs.Sound.{Counted, counted_statement, counted_calls, coun
 use Rattle.law_designs.proofs.Shared.Lists.{in-cases}
 use Rattle.law_designs.proofs.Renaming.{offers_it}
 use Rattle.std.proofs.lemmas.Bool.{eqb-true}
-use Rattle.law_calls.proofs.Shared.Facts.{or_else-none}
-use Rattle.law_calls.proofs.Shared.Lists.{IsIn}
+use Rattle.law_lists.proofs.Shared.Facts.{or_else-none}
+use Rattle.law_lists.proofs.Shared.Lists.{IsIn}
 
 -- the name of a counted call
 abbrev pub counted_name : Counted → OpName

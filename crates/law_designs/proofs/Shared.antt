@@ -1,8 +1,6 @@
 -- What other crates may cite of the proofs of this one.
 pub mod Blocks
-pub mod CostRanges
 pub mod Flattened
-pub mod Greatest
 pub mod Lists
 pub mod ObjectNames
 pub mod ObjectRules

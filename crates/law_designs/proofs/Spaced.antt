@@ -20,7 +20,7 @@ use Rattle.law_designs.proofs.Shared.ObjectRules.{separations-right}
 use Rattle.law_designs.proofs.Shared.Blocks.{thread-needed}
 use Rattle.law_designs.proofs.Shared.Starting.{can-same}
 use Rattle.law_designs.proofs.Shared.Started.{service-count}
-use Rattle.law_calls.proofs.Shared.Lists.{in-map, filter-in, in-filter, IsIn}
+use Rattle.law_lists.proofs.Shared.Lists.{in-map, filter-in, in-filter, IsIn}
 
 -- the period of a thread is the spacing of its object
 period-spacing : (o : Object) (t : Timing) → timing_by o.kind o ≡ Some t → period_of t ≡ spacing o

@@ -23,14 +23,14 @@ use Rattle.analysis.proofs.Shared.CeilingLaws.{node, ceiling-user, ceiling-calle
 use Rattle.guarantee.specs.Programs.{passive_unit, shared_unit, thread_form, thread_unit, program_for}
 use Rattle.guarantee.specs.ResponseLaw.{ceiling_of, ceiling_named, IsBelowCeiling}
 use Rattle.law_designs.proofs.Shared.ProgramTasks.{zipped-at, ceiling-low, raised-at, from-raised, number-at}
-use Rattle.law_calls.proofs.Shared.Lists.{each-append, each-by, any-in, at-in}
-use Rattle.law_calls.proofs.Shared.Facts.{same-self, same-is}
-use Rattle.law_calls.proofs.Shared.Places.{get-front, zip-at, mapped-at, map-at}
+use Rattle.law_lists.proofs.Shared.Lists.{each-append, each-by, any-in, at-in}
+use Rattle.law_lists.proofs.Shared.Facts.{same-self, same-is}
+use Rattle.law_lists.proofs.Shared.Places.{get-front, zip-at, mapped-at, map-at}
 use Rattle.std.proofs.lemmas.List.{length-map}
 use Rattle.std.proofs.lemmas.Bool.{or_right, both_ways, and_parts, not-true}
 use Rattle.std.proofs.lemmas.Option.{same_Some, slice_get_within}
 use Rattle.law_designs.proofs.Shared.Lists.{named-from}
-use Rattle.law_designs.proofs.Shared.Greatest.{at-least}
+use Rattle.law_lists.proofs.Shared.Greatest.{at-least}
 
 distinct-first : (x : Name) (xs : List Name) → are_distinct (x ∷ xs) ≡ true → (is_named xs x ≡ false) × (are_distinct xs ≡ true)
 distinct-first x xs e = let parts = and_parts (not (is_named xs x)) (are_distinct xs) e in (not-true (is_named xs x) parts.0, parts.1)

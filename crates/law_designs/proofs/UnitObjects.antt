@@ -33,7 +33,7 @@ use Rattle.law_designs.proofs.Externals.{asked-of}
 use Rattle.law_designs.proofs.Shared.Units.{from-zip, UnitFrom, OfLibrary, OfGuarded, OfThread, unit-from}
 use Rattle.law_designs.proofs.ObjectMentions.{BodyFrom}
 use Rattle.law_designs.proofs.ObjectMentions as body
-use Rattle.law_calls.proofs.Shared.Lists.{IsIn}
+use Rattle.law_lists.proofs.Shared.Lists.{IsIn}
 use Rattle.law_designs.proofs.Shared.Served.{may-provide}
 use Rattle.law_designs.proofs.Shared.Blocks.{kept}
 

@@ -41,7 +41,7 @@ use Rattle.law_designs.proofs.Shared.Served.{Meant, meant}
 use Rattle.law_designs.proofs.Shared.Blocks.{Needed, NeededCall, AreNeeded, needed-call, kept, Written, body-needed, operation-written}
 use Rattle.law_designs.proofs.Shared.Blocks.{thread-written}
 use Rattle.law_designs.proofs.Numbers.{at-most-filter, terminals-at-most, thread-range}
-use Rattle.law_calls.proofs.Shared.Lists.{IsIn, in-some, found-in}
+use Rattle.law_lists.proofs.Shared.Lists.{IsIn, in-some, found-in}
 
 -- at most one of three takes each thing
 abbrev one : {A : Type 0} → Option A → ℕ

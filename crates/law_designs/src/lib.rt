@@ -12,10 +12,8 @@
 //!
 //! - `Blocks`: the blocks of a flat design: each is a written block of a terminal object with its calls read by what they mean, and each
 //!   call is one of an operation that its object requires.
-//! - `CostRanges`: what a sound flat design costs: its operations, its calls and its blocking are at most the greatest cost.
 //! - `Flattened`: the entries of a flat design: each comes from one terminal object, and each terminal object of a sort that runs gives
 //!   one.
-//! - `Greatest`: the greatest of a number and those of a list: it is at least each, and at most what each is at most.
 //! - `Lists`: what stands in a list that is made of others, what tests and first finds say of it, and names that differ.
 //! - `ObjectNames`: names of a design without clashes: objects, their operations and their data differ, and so do the entries of the flat
 //!   design.

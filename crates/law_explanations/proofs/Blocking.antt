@@ -15,9 +15,9 @@ use Rattle.analysis.specs.Sections.{Section, section, sections}
 use Rattle.block_causes.specs.Causes.{Cause, cause}
 use Rattle.block_causes.specs.Entered.{entered}
 use Rattle.block_causes.specs.Laws.{BlockingIsCaused, CausesBlock, SectionsAreOfOperations}
-use Rattle.law_calls.proofs.Shared.Lists.{IsIn, any-at, at-in, filter-in, in-flat, in-map}
-use Rattle.law_calls.proofs.Shared.Places.{zip-at}
-use Rattle.law_designs.proofs.Shared.Greatest.{at-most}
+use Rattle.law_lists.proofs.Shared.Lists.{IsIn, any-at, at-in, filter-in, in-flat, in-map}
+use Rattle.law_lists.proofs.Shared.Places.{zip-at}
+use Rattle.law_lists.proofs.Shared.Greatest.{at-most}
 use Rattle.law_designs.proofs.Shared.TableRanges.{sound-table}
 use Rattle.late_response.specs.Laws.{LeastIsSolved}
 use Rattle.explanation.specs.declared.reasons.Blocker.{Blocker}

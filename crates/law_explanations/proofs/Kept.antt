@@ -8,7 +8,7 @@ use Rattle.rt_response.specs.declared.rows.ThreadRow.{ThreadRow}
 use Rattle.rt_response.specs.declared.rows.Bound.{Bound}
 use Rattle.rt_response.specs.Response.{IsWithinLimits}
 use Rattle.analysis.specs.Tables.{table}
-use Rattle.law_calls.proofs.Shared.Places.{mapped-at}
+use Rattle.law_lists.proofs.Shared.Places.{mapped-at}
 use Rattle.late_response.specs.declared.reach.Reach.{Reach}
 use Rattle.late_response.specs.declared.reach.Reach.TheVariants.{Solved, Beyond, Behind}
 use Rattle.late_response.specs.Late.{AreTold, IsSolved, IsTold}

@@ -5,7 +5,7 @@ use Rattle.rt_response.specs.declared.rows.ThreadRow.{ThreadRow}
 use Rattle.rt_response.specs.declared.rows.Bound.{Bound}
 use Rattle.rt_response.specs.Response.{Meets}
 use Rattle.analysis.specs.Tables.{table}
-use Rattle.law_calls.proofs.Shared.Places.{map-at}
+use Rattle.law_lists.proofs.Shared.Places.{map-at}
 use Rattle.law_designs.proofs.Shared.TableRanges.{sound-table}
 use Rattle.late_response.specs.declared.reach.Reach.{Reach}
 use Rattle.late_response.specs.declared.reach.Reach.TheVariants.{Solved, Beyond, Behind}

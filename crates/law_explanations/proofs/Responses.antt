@@ -18,7 +18,7 @@ use Rattle.analysis.specs.Tables.{downwards, table}
 use Rattle.guarantee.specs.Bounded.{Response}
 use Rattle.guarantee.specs.Events.{named}
 use Rattle.guarantee.specs.Programs.{program, responses}
-use Rattle.law_calls.proofs.Shared.Places.{mapped-at}
+use Rattle.law_lists.proofs.Shared.Places.{mapped-at}
 use Rattle.law_chains.specs.Chains.{ChainResponds}
 use Rattle.law_chain_bounds.specs.Printed.{OfChain, PrintedChainsKeepToLevels, chain_of, lowest_response, lowest_row}
 use Rattle.design_bounds.proofs.Shared.TablePlaces.{rows-long}

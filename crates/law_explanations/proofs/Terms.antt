@@ -16,7 +16,7 @@ use Rattle.rt_response.specs.Tables as tables
 use Rattle.analysis.specs.Tables.{table}
 use Rattle.law_designs.proofs.Shared.TableRanges.{sound-table}
 use Rattle.law_designs.proofs.Shared.Lists.{has-at}
-use Rattle.law_calls.proofs.Shared.Places.{map-at, mapped-at}
+use Rattle.law_lists.proofs.Shared.Places.{map-at, mapped-at}
 use Rattle.late_response.specs.declared.reach.Reach.{Reach}
 use Rattle.late_response.specs.declared.reach.Reach.TheVariants.{Solved, Beyond, Behind}
 use Rattle.late_response.specs.Late.{AreTold, DependsOn, IsFar, IsNear, IsOver, IsSolved, IsTold, IsWithin, Needs, OfBoth, itself, through}

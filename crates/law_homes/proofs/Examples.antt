@@ -17,7 +17,7 @@ use Rattle.machine.specs.Meanings.{run}
 use Rattle.law_ceilings.specs.Premises.{Ranking, FallsTo, IsCovered, MayExclude}
 use Rattle.law_ceilings.specs.Bodies.{BlockFits}
 use Rattle.law_ceilings.specs.Sections.{Holds, IsFree}
-use Rattle.law_calls.proofs.Shared.Facts.{same-is}
+use Rattle.law_lists.proofs.Shared.Facts.{same-is}
 use Rattle.law_homes.specs.Homes.{AreAsWritten, AreHome, EntersHome, IsHome, IsOpenTo}
 use Rattle.law_homes.proofs.Shared.Entering.{run-home}
 

@@ -2,7 +2,7 @@
 use Rattle.std.specs.Prelude.{◌≡◌, ℕ, zero, suc, ◌+◌, List, [], ◌∷◌, map, zip, length, slice_get, Some}
 use Rattle.std.specs.List.{range_with_len}
 use Rattle.std.proofs.Common.{sym, ◌∙◌, ap, arith, inl, inr}
-use Rattle.law_calls.proofs.Shared.Lists.{IsIn}
+use Rattle.law_lists.proofs.Shared.Lists.{IsIn}
 use Rattle.std.proofs.lemmas.Option.{none-some, same_Some}
 
 pub zip-in : {A : Type 0} (g : ℕ → ℕ) (m : ℕ) (xs : List A) (u : A × ℕ) → IsIn u (zip xs (map g (range_with_len m (length xs))))

@@ -18,7 +18,7 @@ use Rattle.analysis.specs.Sections.{sections}
 use Rattle.analysis.specs.Sound.{IsSound}
 use Rattle.analysis.specs.Tables.{activation_cost}
 use Rattle.law_calls.specs.CallLaws.{HaveNoRing}
-use Rattle.law_calls.proofs.Shared.Lists.{IsIn, in-parts, in-some}
+use Rattle.law_lists.proofs.Shared.Lists.{IsIn, in-parts, in-some}
 use Rattle.law_calls.proofs.Shared.Bodies.{costs-cover}
 
 -- a block costs at least each call that it makes at all

@@ -37,8 +37,8 @@ use Rattle.law_releases.proofs.Shared.Carrying.{SameFace, going-face, IsElse, Is
 use Rattle.std.proofs.lemmas.Option.{same_Some}
 use Rattle.std.proofs.lemmas.Bool.{true≢false, false_from_ne_true, eqb-true}
 use Rattle.law_releases.proofs.Readiness.{waiting_is, busy_ready}
-use Rattle.law_calls.proofs.Shared.Facts.{first-none, first-where}
-use Rattle.law_calls.proofs.Shared.Places.{change-at, change-else}
+use Rattle.law_lists.proofs.Shared.Facts.{first-none, first-where}
+use Rattle.law_lists.proofs.Shared.Places.{change-at, change-else}
 use Rattle.law_calls.proofs.Shared.Tasks.{going-thread, outside-thread}
 
 -- faces through the changes of an act

@@ -13,7 +13,7 @@ use Rattle.law_releases.proofs.RequestPieces.{free_heads, free_keeps}
 use Rattle.law_releases.proofs.RequestStanding.{Idles, Someone, Queue, Stands, IsAsBefore}
 use Rattle.std.proofs.lemmas.Bool.{true≢false, eq-eqb, false_from_ne_true}
 use Rattle.std.proofs.lemmas.Option.{same_Some}
-use Rattle.law_calls.proofs.Shared.Places.{change-at, changed, change-else}
+use Rattle.law_lists.proofs.Shared.Places.{change-at, changed, change-else}
 use Rattle.law_written.proofs.Shared.Back.{places}
 use Rattle.law_calls.proofs.Shared.Tasks.{released-thread, released-readiness, released-gate, released-pieces}
 

@@ -8,7 +8,7 @@ use Rattle.arrivals_tree.specs.Acceptance.{IsAccepted}
 use Rattle.machine.specs.Systems.{TaskUnit, system}
 use Rattle.law_ceilings.specs.Premises.{IsElsewhere}
 use Rattle.std.proofs.lemmas.Option.{same_Some}
-use Rattle.law_calls.proofs.Shared.Lists.{each-to}
+use Rattle.law_lists.proofs.Shared.Lists.{each-to}
 use Rattle.law_calls.proofs.Shared.Accepted.{IsInside, elsewhere}
 
 -- no arrival is at the place of such a task

@@ -13,7 +13,7 @@ use Rattle.guarantee.specs.Events.{Release, End, Event, By, Horizon}
 use Rattle.guarantee.specs.Events as names
 use Rattle.guarantee.specs.Releases.{Released, releases, AreOnTime}
 use Rattle.guarantee.specs.Bounded.{Response, Either, EndsBy, Responds}
-use Rattle.law_calls.proofs.Shared.Facts.{same-self}
+use Rattle.law_lists.proofs.Shared.Facts.{same-self}
 use Rattle.machine.specs.Steps.{is_due}
 use Rattle.law_releases.proofs.Shared.Carrying.{SameFace, IsElse, IsCarried}
 

@@ -30,7 +30,7 @@ use Rattle.law_releases.proofs.RequestNotices.{Onward, onward_none, AreGood, goo
 use Rattle.law_releases.proofs.RequestNotices.{serve_ready, serve_closed, Served, unit-at}
 use Rattle.std.proofs.lemmas.Bool.{true≢false, eq-eqb, ne_eqb, false_from_ne_true}
 use Rattle.std.proofs.lemmas.Option.{same_Some}
-use Rattle.law_calls.proofs.Shared.Places.{change-at, changed}
+use Rattle.law_lists.proofs.Shared.Places.{change-at, changed}
 use Rattle.law_releases.specs.Serving.{ServedWhile}
 use Rattle.law_written.proofs.Shared.Back.{places}
 use Rattle.law_releases.proofs.Readiness.{waits_not_ready, busy_ready}

@@ -21,7 +21,7 @@ use Rattle.law_releases.proofs.Gates.{released-free}
 use Rattle.std.proofs.lemmas.Option.{none-some, same_Some}
 use Rattle.std.proofs.lemmas.Bool.{true≢false, and_parts}
 use Rattle.law_releases.specs.Serving.{ServedWhile}
-use Rattle.law_calls.proofs.Shared.Places.{changed, mapped-at}
+use Rattle.law_lists.proofs.Shared.Places.{changed, mapped-at}
 use Rattle.machine.specs.Effects.{task_unit}
 
 -- the request that is told and not yet served, where there is one

@@ -8,7 +8,7 @@ use Rattle.machine.specs.States.{Task, Gate, Readiness, Asleep, Waiting, Ready}
 use Rattle.guarantee.specs.Requests.{Pending}
 use Rattle.law_releases.proofs.RequestPieces.{Heads, keeps, opened, KeptBy, not_kept, opened_keeps}
 use Rattle.std.proofs.lemmas.Bool.{true≢false}
-use Rattle.law_calls.proofs.Shared.Places.{change-at, changed, change-else}
+use Rattle.law_lists.proofs.Shared.Places.{change-at, changed, change-else}
 use Rattle.law_written.proofs.Shared.Back.{places}
 
 -- how long a task has been waiting for a request

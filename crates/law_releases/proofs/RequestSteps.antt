@@ -35,10 +35,10 @@ use Rattle.law_releases.proofs.RequestNotices.{first_of, Onward, onward_none, Ar
 use Rattle.law_releases.proofs.RequestNotices.{serve_waiting, serve_ready, Served, no_first_pieces}
 use Rattle.law_releases.proofs.RequestEffects.{MayAct, act_goes}
 use Rattle.std.proofs.lemmas.Bool.{true≢false, eqb-true, false_from_ne_true}
-use Rattle.law_calls.proofs.Shared.Places.{change-at, changed}
+use Rattle.law_lists.proofs.Shared.Places.{change-at, changed}
 use Rattle.law_releases.specs.Serving.{ServedWhile}
 use Rattle.law_written.proofs.Shared.Back.{places}
-use Rattle.law_calls.proofs.Shared.Facts.{first-where}
+use Rattle.law_lists.proofs.Shared.Facts.{first-where}
 use Rattle.law_releases.proofs.Readiness.{waits_not_ready}
 use Rattle.law_calls.proofs.Shared.Instants.{acted-same, serve-same}
 

@@ -25,8 +25,8 @@ use Rattle.law_ceilings.proofs.Shared.Kept.{Keeps}
 use Rattle.law_ceilings.proofs.Shared.Fitting.{IsEntered, ActFits, done-fits}
 use Rattle.law_ceilings.proofs.Shared.Keeping.{AreWritten, opening-keeps, step-keeps}
 use Rattle.law_ceilings.proofs.Shared.Passing.{Face, face, faces, into, out_of, Passing, Stays, Enters, Leaves, step-passing}
-use Rattle.law_calls.proofs.Shared.Lists.{each-append, each-drop}
-use Rattle.law_calls.proofs.Shared.Places.{all-at, map-at}
+use Rattle.law_lists.proofs.Shared.Lists.{each-append, each-drop}
+use Rattle.law_lists.proofs.Shared.Places.{all-at, map-at}
 
 -- what holds of each item still does where one changes to another of which it holds
 each_change : {A : Type 0} (Q : A → Type 0) (i : ℕ) (f : A → A) (xs : List A) → ((x : A) → Q x → Q (f x)) → Each Q xs → Each Q (change i f xs)

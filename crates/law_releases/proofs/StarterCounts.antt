@@ -11,7 +11,7 @@ use Rattle.machine.specs.Deeds.{Act, Ended, done}
 use Rattle.law_calls.proofs.Shared.Remaining.{Measure, own, rest, CoversCalls, rest-done}
 use Rattle.law_tasks.proofs.Shared.Aheads.{is_quiet}
 use Rattle.law_tasks.proofs.Shared.Acts.{Source, From_quiet, From_put, From_entry, From_leave, From_ended, From_finish, source}
-use Rattle.law_calls.proofs.Shared.Weights.{counting}
+use Rattle.law_lists.proofs.Shared.Weights.{counting}
 
 -- requests of a task, counted where they end, and where calls count this much
 abbrev pub requests_of : (Name → Name → ℕ) → ℕ → Measure

@@ -34,10 +34,10 @@ use Rattle.std.proofs.lemmas.Option.{same_Some}
 use Rattle.std.proofs.lemmas.Bool.{true≢false, eqb-true, eq-eqb, ne_eqb}
 use Rattle.law_releases.specs.Starting.{AsksOnce}
 use Rattle.guarantee.specs.Bounded.{Either}
-use Rattle.law_calls.proofs.Shared.Places.{changed}
+use Rattle.law_lists.proofs.Shared.Places.{changed}
 use Rattle.law_written.proofs.Shared.Back.{places}
-use Rattle.law_calls.proofs.Shared.Facts.{first-where}
-use Rattle.law_calls.proofs.Shared.Weights.{counting}
+use Rattle.law_lists.proofs.Shared.Facts.{first-where}
+use Rattle.law_lists.proofs.Shared.Weights.{counting}
 use Rattle.law_calls.proofs.Shared.Tasks.{going-pieces, going-thread, released-pieces}
 
 module _ (p : Program) (y : System) (through : Name → Name → ℕ) (j : ℕ) (th : TaskUnit) (is : IsNamed p y j th) (first : ℕ) (sth : TaskUnit)

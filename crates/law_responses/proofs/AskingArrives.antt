@@ -18,7 +18,7 @@ use Rattle.law_responses.proofs.Asking.{Came, Awaits, Wait, wait_of, Asked, Aski
 use Rattle.law_responses.proofs.AskingMoves.{NoMid}
 use Rattle.law_responses.proofs.AskingRequests.{asking-noted}
 use Rattle.law_calls.proofs.Shared.Nominals.{nominal-behind, earlier-here, earlier-else}
-use Rattle.law_calls.proofs.Shared.Places.{same-item}
+use Rattle.law_lists.proofs.Shared.Places.{same-item}
 
 came-else : (f : Frame) (acts : List Made) (taken : List Arrival) (a : Arrival) (row : ThreadRow) (unit : ℕ) (external : Bool) (separation jitter : ℕ)
     (kept : Option Kept) → a.task ≢ unit

@@ -16,7 +16,7 @@ use Rattle.law_responses.proofs.Base.{Busy, Base}
 use Rattle.law_responses.proofs.BaseMoves.{rest-not-ready, ended-at}
 use Rattle.law_responses.proofs.Asking.{Wait, wait_of, Asked, Asks, Asking}
 use Rattle.law_responses.proofs.AskingLater.{IsLater, later-ended, asked-later}
-use Rattle.law_calls.proofs.Shared.Places.{same-item, each-changed}
+use Rattle.law_lists.proofs.Shared.Places.{same-item, each-changed}
 
 -- the task whose activation ended rests
 asked-rests : (f : Frame) (time : ℕ) (acts : List Made) (taken : List Arrival) (kept : Option Kept) (r : ℕ) (w : Wait) (row : ThreadRow)

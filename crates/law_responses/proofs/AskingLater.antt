@@ -10,7 +10,7 @@ use Rattle.law_responses.proofs.Logs.{Made, over_at, OfRow, EndedAt}
 use Rattle.law_responses.proofs.Later.{WasThere, IsStill, was-self, still-grown, was-ended, still-ended}
 use Rattle.law_responses.proofs.Frames.{Frame, Kept}
 use Rattle.law_responses.proofs.Asking.{Sleeps, Came, Awaits, Wait, Asked}
-use Rattle.law_calls.proofs.Shared.Places.{each-grown}
+use Rattle.law_lists.proofs.Shared.Places.{each-grown}
 
 -- a later log, as a task with this row sees it
 pub record IsLater (acts acts' : List Made) (now r : ℕ) : Type 0 where

@@ -14,7 +14,7 @@ use Rattle.law_responses.proofs.Views.{Core, View, now_of, on_with, opened_core,
 use Rattle.law_responses.proofs.Frames.{Frame, requests_measure, HasRow, no-row, quota, Kept, Notes, EndsRequest}
 use Rattle.law_responses.proofs.Tidy.{Tidy, NoEnds, tidy-from, no-ends}
 use Rattle.law_responses.proofs.Asking.{Sleeps, Awaits, Wait, wait_of, Asked, IsFresh, Asks, Asking}
-use Rattle.law_calls.proofs.Shared.Places.{each-changed, each-changed-one}
+use Rattle.law_lists.proofs.Shared.Places.{each-changed, each-changed-one}
 
 -- nobody is about to end a request
 abbrev pub NoMid : Frame → View → Type 0

@@ -16,7 +16,7 @@ use Rattle.law_responses.proofs.Tidy.{NoEnds, tidy-from, no-ends, block-tidy}
 use Rattle.law_responses.proofs.Base.{Base, written-at, core-at, put, put-here, put-other}
 use Rattle.law_responses.proofs.Asking.{Wait, wait_of, Asked, IsFresh, AreFresh, Asks, Asking}
 use Rattle.law_responses.proofs.AskingLater.{later-grown, asked-later}
-use Rattle.law_calls.proofs.Shared.Places.{get-front, get-last, same-item, each-changed-one}
+use Rattle.law_lists.proofs.Shared.Places.{get-front, get-last, same-item, each-changed-one}
 
 -- what a task may request as it is released
 released-few : (f : Frame) (i k s : ℕ) (c : Core) → IsFramed f → slice_get f.system.threads i ≡ Some c.thread → HasRow f k s

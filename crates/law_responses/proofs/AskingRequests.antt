@@ -18,7 +18,7 @@ use Rattle.law_responses.proofs.Tidy.{Tidy, EndsOf, barrier-tidy, barrier-ends}
 use Rattle.law_responses.proofs.Base.{Busy, Base, written-at, put, put-here, put-other}
 use Rattle.law_responses.proofs.Asking.{Awaits, Wait, wait_of, Asked, IsMid, IsFresh, AreFresh, Asks, Asking}
 use Rattle.law_responses.proofs.AskingMoves.{fresh-less}
-use Rattle.law_calls.proofs.Shared.Places.{same-item, each-changed, each-changed-one}
+use Rattle.law_lists.proofs.Shared.Places.{same-item, each-changed, each-changed-one}
 
 -- a task just before a request of another is noted: if it made the request, the end of it comes next, and it makes no more of them
 pub record IsReady (f : Frame) (now : Now) (acts : List Made) (n : Notes) (k : ℕ) (q : Kept) (j : ℕ) (c : Core) : Type 0 where

@@ -15,7 +15,7 @@ use Rattle.law_calls.proofs.Shared.Remaining.{behind, rest}
 use Rattle.law_responses.proofs.Views.{Core, View, Now, now_of, on_with, opened_core, changed}
 use Rattle.law_responses.proofs.Frames.{Frame, ticks_measure, HasRow, no-row, HasEnd, remaining}
 use Rattle.law_responses.proofs.Endings.{remaining-own}
-use Rattle.law_calls.proofs.Shared.Places.{change-at, get-other, map-at, mapped-at, map-kept, each-changed, each-changed-one}
+use Rattle.law_lists.proofs.Shared.Places.{change-at, get-other, map-at, mapped-at, map-kept, each-changed, each-changed-one}
 
 -- the activation at a place is one of a task with a row that is not over
 pub record IsCurrent (acts : List Made) (place j r : ℕ) : Type 0 where

@@ -19,8 +19,8 @@ use Rattle.law_responses.proofs.Views.{Core, View, Now, now_of, on_with, waking_
 use Rattle.law_responses.proofs.Frames.{Frame, ticks_measure, HasRow, IsTabled, IsFramed, StartsSome, HasEnd, remaining}
 use Rattle.law_responses.proofs.Endings.{block-end, remaining-own}
 use Rattle.law_responses.proofs.Base.{Busy, IsBusy, IsOf, Base, SomeLeft, written-at, threads-kept, put, put-here, put-other, made-kept}
-use Rattle.law_calls.proofs.Shared.Places.{change-at, get-front, get-last, get-other, length-grown, same-item, each-changed, each-changed-one}
-use Rattle.law_calls.proofs.Shared.Places.{each-grown}
+use Rattle.law_lists.proofs.Shared.Places.{change-at, get-front, get-last, get-other, length-grown, same-item, each-changed, each-changed-one}
+use Rattle.law_lists.proofs.Shared.Places.{each-grown}
 
 -- a released task is ready, and has the pieces of its block before it
 busy-released : (f : Frame) (now : Now) (l : Log) (place i r : ℕ) (m : Made) (qs : List Piece) (c : Core) → slice_get l.acts place ≡ Some m

@@ -31,7 +31,7 @@ use Rattle.law_responses.proofs.Moves.{Along, Moved, since_by, since, quiet-none
 use Rattle.law_responses.proofs.Moves.{grown-finished}
 use Rattle.law_responses.proofs.Releasing.{release-requested}
 use Rattle.law_responses.proofs.Seen.{see, view-goes, view-exit, view-open, view-ended, view-released, Goes, acted-goes, IsQuietPiece, done-quiet}
-use Rattle.law_calls.proofs.Shared.Places.{same-item}
+use Rattle.law_lists.proofs.Shared.Places.{same-item}
 
 -- what the machine keeps of pieces: exits stand in loops, and a task that isn't ready has nothing left to do
 pub record IsFit (s : State) : Type 0 where

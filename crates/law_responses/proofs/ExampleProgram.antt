@@ -21,7 +21,7 @@ use Rattle.ada_tree.specs.Rules.{Naming, Uses, Rings, Bodies, Ranges, Externals,
 use Rattle.ada_tree.specs.Uses.{breaks_uses, Calls, CallsUnit, BreaksRings, breaks_external}
 use Rattle.ada_tree.specs.Words.{is_ada_name}
 use Rattle.guarantee.specs.MachineLaw.{IsReadable}
-use Rattle.law_calls.proofs.Shared.Facts.{same-is}
+use Rattle.law_lists.proofs.Shared.Facts.{same-is}
 
 abbrev pub unit : Name → Form → Unit
 unit name form = record { name = name; form = form }

@@ -6,7 +6,7 @@ use Rattle.std.proofs.lemmas.Option.{none-some, slice_get_within}
 use Rattle.seq_tree.specs.Lists.{change}
 use Rattle.rt_response.specs.declared.rows.ThreadRow.{ThreadRow}
 use Rattle.law_responses.proofs.Logs.{Made, Log, IsOpenAt, Follows, Cause, IsTimely, IsTimed, started, over_at, finished}
-use Rattle.law_calls.proofs.Shared.Places.{change-at, get-front, get-grown, get-other, same-item, each-changed-one, each-grown}
+use Rattle.law_lists.proofs.Shared.Places.{change-at, get-front, get-grown, get-other, same-item, each-changed-one, each-grown}
 
 -- activations that differ at most in whether they are over
 pub record AreAlike (x m : Made) : Type 0 where

@@ -8,8 +8,8 @@ use Rattle.rt_response.specs.Tables.{Each}
 use Rattle.law_schedules.specs.Schedules.{ticks_of, is_by}
 use Rattle.law_responses.proofs.Marks.{marks-other, marks-own, by-own, by-other}
 use Rattle.law_responses.proofs.Logs.{Made, Log, started, over_at, finished, ticked, EndsAfter, IsWell, IsLogged}
-use Rattle.law_calls.proofs.Shared.Places.{length-change, get-last, get-grown, get-changed, length-grown, same-item}
-use Rattle.law_calls.proofs.Shared.Lists.{each-append}
+use Rattle.law_lists.proofs.Shared.Places.{length-change, get-last, get-grown, get-changed, length-grown, same-item}
+use Rattle.law_lists.proofs.Shared.Lists.{each-append}
 
 well-new : (rows : List ThreadRow) (ticks : List (Option ℕ)) (k : ℕ) (m : Made) (row : ThreadRow) → ticks_of k ticks ≡ [] → m.over ≡ None
     → m.release ≡ length ticks

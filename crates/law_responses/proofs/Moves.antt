@@ -16,8 +16,8 @@ use Rattle.law_responses.proofs.Base.{Busy, Base, written-at}
 use Rattle.law_responses.proofs.Asking.{Asking}
 use Rattle.law_responses.proofs.Told.{answers, with_end, IsOther, answers-other, answers-release, other-release, answers-end, other-end, ends_of}
 use Rattle.law_responses.proofs.Told.{ends-own, ends-else, ends-far, ends-end}
-use Rattle.law_calls.proofs.Shared.Places.{get-grown, length-grown, same-item, each-grown}
-use Rattle.law_calls.proofs.Shared.Lists.{each-append}
+use Rattle.law_lists.proofs.Shared.Places.{get-grown, length-grown, same-item, each-grown}
+use Rattle.law_lists.proofs.Shared.Lists.{each-append}
 
 -- a log and notes that belong to a view
 pub record Along (f : Frame) (v : View) (l : Log) (n : Notes) : Type 0 where

@@ -19,9 +19,9 @@ use Rattle.arrivals_tree.specs.Arriving.{Arrivals, Durations, durations}
 use Rattle.arrivals_tree.specs.Acceptance.{Unknown, Unfit, Far, has_nothing, durations_fault, works_fault, requests_fault, IsAccepted}
 use Rattle.machine.specs.Systems.{TaskUnit, thread_by, system}
 use Rattle.machine.specs.Pieces.{Piece, Finishing, Turning, turns, pieces_of, pieces, branch_pieces, work_ticks}
-use Rattle.law_calls.proofs.Shared.Lists.{IsIn, in-left, in-right, in-flat, at-in, none-in, made-at}
+use Rattle.law_lists.proofs.Shared.Lists.{IsIn, in-left, in-right, in-flat, at-in, none-in, made-at}
 use Rattle.law_responses.proofs.Frames.{StartsSome}
-use Rattle.law_calls.proofs.Shared.Facts.{or_else-none}
+use Rattle.law_lists.proofs.Shared.Facts.{or_else-none}
 use Rattle.std.proofs.lemmas.Bool.{or_parts}
 use Rattle.law_calls.proofs.Shared.UnitRules.{ranges-kept, task-body}
 

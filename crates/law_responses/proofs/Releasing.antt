@@ -19,7 +19,7 @@ use Rattle.law_responses.proofs.AskingReleases.{asking-released}
 use Rattle.law_responses.proofs.Later.{still-grown}
 use Rattle.law_responses.proofs.Moves.{Along, Moved, since, grown-started}
 use Rattle.trace_tree.specs.declared.event.Event.TheVariants as event
-use Rattle.law_calls.proofs.Shared.Places.{same-item, each-grown}
+use Rattle.law_lists.proofs.Shared.Places.{same-item, each-grown}
 
 follows-of : (acts : List Made) (r time : ℕ) (m : Made) → m.row ≡ r → m.release ≡ time → EndedAt acts r time → Follows acts (length acts) m
 follows-of acts r time m of_row now h = record {

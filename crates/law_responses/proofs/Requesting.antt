@@ -20,20 +20,20 @@ use Rattle.machine.specs.Systems.{System, TaskUnit, ReleasePattern, Periodic, Re
 use Rattle.machine.specs.Systems.{callee}
 use Rattle.analysis.specs.Starts.{starts_within, all_calls, can_request, block_starts}
 use Rattle.guarantee.specs.ResponseLaw.{Ranked, ranked, program_services, IsStarter, IsStarted, AreTabled}
-use Rattle.law_calls.proofs.Shared.Lists.{IsIn, at-in, zip-first}
+use Rattle.law_lists.proofs.Shared.Lists.{IsIn, at-in, zip-first}
 use Rattle.law_calls.proofs.Shared.Systems.{thread_form, thread-at, IsAskedBy, LeadsToTask, LeadsTo, leads-to}
 use Rattle.law_calls.proofs.Shared.Remaining.{Measure, Covers, CoversCalls}
 use Rattle.law_responses.proofs.Frames.{Frame, HasRow, one_at, one-here, one-apart, quota_by, quota, requests_measure, IsAsked, IsTabled}
 use Rattle.law_responses.proofs.TwinTasks.{SameTiming, AreTwins, twin-of, thread-of}
 use Rattle.law_responses.proofs.Tabling.{counted_in, counted_by, frame, ranked-once, row-is}
 use Rattle.law_responses.proofs.TabledTasks.{task-tabled}
-use Rattle.law_calls.proofs.Shared.Facts.{same-is}
-use Rattle.law_calls.proofs.Shared.Places.{same-item, all-at}
+use Rattle.law_lists.proofs.Shared.Facts.{same-is}
+use Rattle.law_lists.proofs.Shared.Places.{same-item, all-at}
 use Rattle.std.proofs.lemmas.Bool.{cases_eq, and_parts, false_from_ne_true}
 use Rattle.law_calls.proofs.Shared.UnitRules.{call-in, externals-kept, task-body}
 use Rattle.law_calls.proofs.Shared.Requests.{written-requested}
 use Rattle.law_calls.proofs.Shared.Starting.{block-requested, none-started, unrequested, CoversBody, covers-body}
-use Rattle.law_calls.proofs.Shared.Weights.{counting, count-none}
+use Rattle.law_lists.proofs.Shared.Weights.{counting, count-none}
 
 -- a request of a task weighs at most what a call counts, where the call counts a request of this task
 counted : (k task n : ℕ) → (k ≡ task → 1 ≤ n) → 0 + one_at k task + 0 ≤ n

@@ -19,7 +19,7 @@ use Rattle.machine.specs.Effects.{outside_by, outside_now, inside_now, lent, cei
 use Rattle.machine.specs.Effects.{open_gate, ended, acted, object_unit, section_unit}
 use Rattle.law_responses.proofs.Views.{Core, View, core, view, on_with, released_core, ended_core, opened_core, changed}
 use Rattle.law_responses.proofs.Frames.{Frame}
-use Rattle.law_calls.proofs.Shared.Places.{map-changed, map-kept}
+use Rattle.law_lists.proofs.Shared.Places.{map-changed, map-kept}
 use Rattle.law_responses.proofs.Moves.{AreQuiet, quiet-none, quiet-one}
 
 -- a task in a state and in its view

@@ -30,8 +30,8 @@ use Rattle.law_responses.proofs.Moves.{Along, Moved, since_by, since, quiet-none
 use Rattle.law_responses.proofs.Releasing.{release-cyclic}
 use Rattle.law_responses.proofs.Seen.{see, seen, view-released}
 use Rattle.law_responses.proofs.Effecting.{IsFit, effect-moves, serve-moves, release-outside}
-use Rattle.law_calls.proofs.Shared.Facts.{first-where, first-none}
-use Rattle.law_calls.proofs.Shared.Places.{map-changed, same-item, each-changed}
+use Rattle.law_lists.proofs.Shared.Facts.{first-where, first-none}
+use Rattle.law_lists.proofs.Shared.Places.{map-changed, same-item, each-changed}
 
 -- the dispatched task is ready
 abbrev IsReadyAt : ℕ → List Task → Candidate → Type 0

@@ -17,9 +17,9 @@ use Rattle.law_calls.proofs.Shared.Systems.{thread_form, thread-at}
 use Rattle.law_responses.proofs.Frames.{Frame, HasRow, IsAsked, IsTabled}
 use Rattle.law_responses.proofs.TwinTasks.{SameTiming, AreTwins, HasTwin, twin-of, thread-of}
 use Rattle.law_responses.proofs.Tabling.{place_in, item_at, starter_by, starter_if, starter_in, frame, row-is, has-row, place-of}
-use Rattle.law_calls.proofs.Shared.Places.{same-item}
+use Rattle.law_lists.proofs.Shared.Places.{same-item}
 use Rattle.std.proofs.lemmas.Bool.{or_parts}
-use Rattle.law_calls.proofs.Shared.Lists.{zip-first}
+use Rattle.law_lists.proofs.Shared.Lists.{zip-first}
 use Rattle.law_calls.proofs.Shared.UnitRules.{numbers-kept}
 
 -- numbers of a task that is requested

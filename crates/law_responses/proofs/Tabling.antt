@@ -21,8 +21,8 @@ use Rattle.guarantee.specs.ResponseLaw.{Ranked, ranked, program_services, is_amo
 use Rattle.law_calls.proofs.Shared.Systems.{thread-at, threads-differ}
 use Rattle.law_responses.proofs.Frames.{Frame, HasRow}
 use Rattle.law_responses.proofs.TwinTasks.{thread-of, units-apart}
-use Rattle.law_calls.proofs.Shared.Facts.{same-self, same-is, first-where, first-none}
-use Rattle.law_calls.proofs.Shared.Places.{same-item, all-at}
+use Rattle.law_lists.proofs.Shared.Facts.{same-self, same-is, first-where, first-none}
+use Rattle.law_lists.proofs.Shared.Places.{same-item, all-at}
 
 -- whether two tasks have one name
 abbrev pub same_task : Ranked → Ranked → Bool

@@ -10,7 +10,7 @@ use Rattle.machine.specs.Systems.{TaskUnit, ReleasePattern, Periodic, Requested,
 use Rattle.guarantee.specs.Software.{task_by}
 use Rattle.guarantee.specs.ResponseLaw.{Ranked, priority_of, ranked}
 use Rattle.law_calls.proofs.Shared.Apart.{units_apart}
-use Rattle.law_calls.proofs.Shared.Lists.{zip-first, zip-second, BothMake, made-both}
+use Rattle.law_lists.proofs.Shared.Lists.{zip-first, zip-second, BothMake, made-both}
 use Rattle.law_calls.proofs.Shared.UnitNames.{places-apart}
 
 -- the timing of a thread and of a task

@@ -23,7 +23,7 @@ use Rattle.machine.specs.Dispatch.{dispatched}
 use Rattle.machine.specs.Meanings.{run}
 use Rattle.guarantee.specs.Events.{named}
 use Rattle.guarantee.specs.Bounded.{Either}
-use Rattle.law_calls.proofs.Shared.Lists.{each-append}
+use Rattle.law_lists.proofs.Shared.Lists.{each-append}
 use Rattle.law_responses.specs.Using.{UsesAtMost}
 use Rattle.law_responses.proofs.Answering.{Names}
 use Rattle.law_responses.proofs.Base.{Base, written-at}

@@ -48,8 +48,8 @@ use Rattle.law_releases.proofs.Shared.ServedLaw.{served_while, all_requests_serv
 use Rattle.law_releases.proofs.Shared.ArrivalsTold.{are_told}
 use Rattle.law_written.proofs.Shared.EveryRun.{every_run}
 use Rattle.law_runs.specs.Laws.{ServesTable}
-use Rattle.law_calls.proofs.Shared.Places.{all-at, zip-at, map-at}
-use Rattle.law_calls.proofs.Shared.Lists.{zip-first, each-map, each-by}
+use Rattle.law_lists.proofs.Shared.Places.{all-at, zip-at, map-at}
+use Rattle.law_lists.proofs.Shared.Lists.{zip-first, each-map, each-by}
 use Rattle.law_releases.specs.Serving.{ServedWhile, NeverOverruns, asked, taken, HasNoOverrun}
 use Rattle.law_releases.specs.Starting.{AsksOnce}
 use Rattle.law_releases.specs.Laws.{EndsWithinPeriod}

@@ -30,8 +30,8 @@ use Rattle.law_releases.proofs.Shared.AcceptedArrivals.{named_item, later_named,
 use Rattle.law_releases.proofs.Shared.Tasks.{each_task}
 use Rattle.std.proofs.lemmas.Option.{none-some, same_Some}
 use Rattle.std.proofs.lemmas.Bool.{true≢false, not-false, eqb-true, eqb-false, false_from_ne_true}
-use Rattle.law_calls.proofs.Shared.Facts.{or_else-none, no-fault}
-use Rattle.law_calls.proofs.Shared.Lists.{each-to, each-map}
+use Rattle.law_lists.proofs.Shared.Facts.{or_else-none, no-fault}
+use Rattle.law_lists.proofs.Shared.Lists.{each-to, each-map}
 use Rattle.law_calls.proofs.Shared.Threads.{IsMadeOf, made-of, threads_apart, thread_name}
 use Rattle.law_calls.proofs.Shared.Accepted.{works-each, no-faults}
 use Rattle.law_calls.proofs.Shared.Nominals.{nominal-behind, earlier-behind}

@@ -20,7 +20,7 @@ use Rattle.ada_tree.specs.Rules.{Bodies, Ranges, At, MeetsRules}
 use Rattle.law_tasks.proofs.Shared.Courses.{FitStatement, FitBlock, FitBranches}
 use Rattle.std.proofs.lemmas.Option.{none-some}
 use Rattle.std.proofs.lemmas.Bool.{false_from_ne_true, or_parts, not-false}
-use Rattle.law_calls.proofs.Shared.Facts.{or_else-none, no-fault}
+use Rattle.law_lists.proofs.Shared.Facts.{or_else-none, no-fault}
 
 -- numbers of `work`
 abbrev AreWithin : List ℕ → Type 0

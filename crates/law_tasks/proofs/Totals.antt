@@ -20,7 +20,7 @@ use Rattle.machine.specs.Systems.{CallTarget, Plain, Protected, Request, Unknown
 use Rattle.machine.specs.Pieces.{Piece, Idle, Store, Leaving, Calling, Working, Printing, Testing, Turning, Turned, Returning, Closing, Keeping}
 use Rattle.machine.specs.Pieces.{Opening, Requested, Finishing}
 use Rattle.law_tasks.proofs.Shared.Courses.{Course, IsApt, IsFitCallee, seen, setting, FitStatement, FitBlock, FitBranches, FitPiece, FitPieces}
-use Rattle.law_calls.proofs.Shared.Depths.{IsDeep}
+use Rattle.law_lists.proofs.Shared.Depths.{IsDeep}
 use Rattle.law_calls.proofs.Shared.Passives.{passive_by, passive_calls}
 use Rattle.law_tasks.proofs.Shared.Ways.{WayPiece, Ways, Onwards, Passing, is_last}
 use Rattle.law_walks.proofs.Shared.Bodies.{body_of}

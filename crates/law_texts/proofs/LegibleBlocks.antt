@@ -11,7 +11,7 @@ use Rattle.seq_tree.specs.declared.token.Mark.TheVariants.{Semicolon}
 use Rattle.seq_tree.specs.declared.tree.OpName.{OpName}
 use Rattle.ods_tree.specs.Links.{renamed_statement, renamed, renamed_branches}
 use Rattle.ada_print.specs.Writable.{is_word, is_number}
-use Rattle.law_calls.proofs.Shared.Lists.{IsIn, in-left, in-right}
+use Rattle.law_lists.proofs.Shared.Lists.{IsIn, in-left, in-right}
 use Rattle.law_texts.proofs.Tokens.{HasLegible, parts, lines-both, lines-parts, line-first}
 
 -- the end of an `if` and of a loop

@@ -7,7 +7,7 @@ use Rattle.std.proofs.lemmas.List.Folds.{list_all-append}
 use Rattle.seq_tree.specs.Spelling.{Line, joined}
 use Rattle.seq_tree.specs.declared.token.Token.{Token}
 use Rattle.seq_print.specs.Readable.{is_readable}
-use Rattle.law_calls.proofs.Shared.Lists.{IsIn, in-flat}
+use Rattle.law_lists.proofs.Shared.Lists.{IsIn, in-flat}
 use Rattle.law_designs.proofs.Shared.Lists.{all-from, all-in}
 
 -- tokens that a text can hold

@@ -21,7 +21,7 @@ use Rattle.trace_tree.specs.Placed.{IsUnit, IsOp}
 use Rattle.machine.specs.Systems.{System, TaskUnit, ProtectedUnit, ReleasePattern, Periodic, Requested, CallTarget, Plain, Protected, Request}
 use Rattle.machine.specs.Systems.{Unknown, callee, system}
 use Rattle.machine.specs.Effects.{object_unit}
-use Rattle.law_calls.proofs.Shared.Lists.{IsIn, at-in, none-in, in-map, each-in, place-of}
+use Rattle.law_lists.proofs.Shared.Lists.{IsIn, at-in, none-in, in-map, each-in, place-of}
 use Rattle.law_calls.proofs.Shared.Systems.{thread_form, library-at, object-at, thread-at, LeadsTo, leads-to}
 use Rattle.law_calls.proofs.Shared.Threads.{unit_ops-at}
 use Rattle.law_calls.proofs.Shared.UnitRules.{ranges-kept}

@@ -23,9 +23,9 @@ use Rattle.machine.specs.Effects.{entry, exit, go, ended, acted}
 use Rattle.machine.specs.Steps.{goes_to, effect_of, effect_at, effect_step, is_due, delay_step, horizon_step, arrive_at, arrival_step, use_step}
 use Rattle.machine.specs.Steps.{step_in, step}
 use Rattle.machine.specs.Meanings.{run, Rest}
-use Rattle.law_calls.proofs.Shared.Facts.{first-where}
-use Rattle.law_calls.proofs.Shared.Lists.{each-append}
-use Rattle.law_calls.proofs.Shared.Places.{all-at}
+use Rattle.law_lists.proofs.Shared.Facts.{first-where}
+use Rattle.law_lists.proofs.Shared.Lists.{each-append}
+use Rattle.law_lists.proofs.Shared.Places.{all-at}
 use Rattle.law_trace_lines.specs.Told.{IsTicks, IsWord, IsWordWhere, IsEvent}
 use Rattle.law_told_events.proofs.Values.{HoldWords, pick, kept-fits, parameter-fits}
 use Rattle.law_told_events.proofs.Pieces.{FitBlock, FitPieces, FitCallee, FitAct, block-fits, done-fits}

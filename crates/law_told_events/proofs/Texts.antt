@@ -14,7 +14,7 @@ use Rattle.seq_tree.specs.declared.token.Mark.TheVariants.{Comma, RightParen, Se
 use Rattle.seq_tree.specs.declared.tree.Datum.{Datum}
 use Rattle.seq_print.specs.Readable.{is_readable}
 use Rattle.ada_print.specs.Writable.{is_number}
-use Rattle.law_calls.proofs.Shared.Lists.{IsIn, in-left, in-right}
+use Rattle.law_lists.proofs.Shared.Lists.{IsIn, in-left, in-right}
 use Rattle.law_designs.proofs.Shared.Lists.{all-in}
 use Rattle.law_texts.proofs.Shared.LegibleUnits.{AreLegibleData, IsLegibleBlock}
 use Rattle.law_trace_lines.specs.Told.{IsWord}

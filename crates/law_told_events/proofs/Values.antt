@@ -19,7 +19,7 @@ use Rattle.seq_tree.specs.declared.tree.Param.{Param}
 use Rattle.seq_tree.specs.declared.tree.Datum.{Datum}
 use Rattle.machine.specs.Releases.{parameter}
 use Rattle.machine.specs.Systems.{ReleasePattern, Periodic, Requested}
-use Rattle.law_calls.proofs.Shared.Lists.{each-append}
+use Rattle.law_lists.proofs.Shared.Lists.{each-append}
 use Rattle.law_trace_lines.specs.Told.{IsWord, IsWordWhere}
 
 -- one of two

@@ -29,7 +29,7 @@ use Rattle.law_written.proofs.Acts.{stand_back, stand_enter, stand_end, stand_re
 use Rattle.law_written.proofs.Passings.{Alone, HasStores, leave_back, enter_back}
 use Rattle.law_written.proofs.Evolving.{AreFitting}
 use Rattle.std.proofs.lemmas.Option.{same_Some}
-use Rattle.law_calls.proofs.Shared.Places.{change-at, change-none, change-else}
+use Rattle.law_lists.proofs.Shared.Places.{change-at, change-none, change-else}
 use Rattle.arrivals_tree.specs.Arriving.{Arrivals}
 use Rattle.law_tasks.proofs.Shared.Courses.{Course, IsApt, FitPieces, IsTicks}
 use Rattle.law_tasks.proofs.Shared.Programs.{course, entry_name, request_name}

@@ -26,7 +26,7 @@ use Rattle.ada_tree.specs.Rules.{MeetsRules}
 use Rattle.law_tasks.proofs.Shared.Fresh.{is_slow, some_ticks}
 use Rattle.law_tasks.proofs.Shared.ProgramFacts.{costs_some}
 use Rattle.law_tasks.proofs.Shared.Fits.{ticks_are, fit_activation}
-use Rattle.law_calls.proofs.Shared.Places.{get-changed}
+use Rattle.law_lists.proofs.Shared.Places.{get-changed}
 use Rattle.law_calls.proofs.Shared.Tasks.{going-pieces, going-thread, outside-thread}
 
 -- whether a piece takes ticks where no work takes none

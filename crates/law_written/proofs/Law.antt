@@ -31,7 +31,7 @@ use Rattle.law_written.proofs.Evolving.{AreFitting, Lasts, HasTicksLeft}
 use Rattle.law_written.proofs.Shared.StepsBack.{IsKept, IsDue, IsSteady, step_backs}
 use Rattle.law_written.proofs.Steady.{step_steady}
 use Rattle.std.proofs.lemmas.Bool.{true≢false}
-use Rattle.law_calls.proofs.Shared.Lists.{each-by, each-map}
+use Rattle.law_lists.proofs.Shared.Lists.{each-by, each-map}
 use Rattle.arrivals_tree.specs.Arriving.{Arrivals}
 use Rattle.law_tasks.proofs.Shared.Courses.{Course, IsApt}
 use Rattle.law_tasks.proofs.Shared.Programs.{course}

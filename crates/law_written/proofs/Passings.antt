@@ -25,8 +25,8 @@ use Rattle.law_written.proofs.Shared.Back.{places, other_name, steps-own, steps-
 use Rattle.law_written.proofs.Acts.{IsEntry}
 use Rattle.std.proofs.lemmas.Option.{none-some, same_Some}
 use Rattle.std.proofs.lemmas.Bool.{false_from_ne_true}
-use Rattle.law_calls.proofs.Shared.Facts.{same-self}
-use Rattle.law_calls.proofs.Shared.Places.{change-at, change-else, set-else}
+use Rattle.law_lists.proofs.Shared.Facts.{same-self}
+use Rattle.law_lists.proofs.Shared.Places.{change-at, change-else, set-else}
 use Rattle.arrivals_tree.specs.Arriving.{Arrivals}
 use Rattle.law_tasks.proofs.Shared.Courses.{Course}
 use Rattle.law_tasks.proofs.Shared.Programs.{course, entry_name}

@@ -32,7 +32,7 @@ use Rattle.law_tasks.proofs.Shared.AptPrograms.{apt}
 use Rattle.ada_tree.specs.Rules.{MeetsRules}
 use Rattle.law_tasks.proofs.Shared.Fits.{fit_done}
 use Rattle.law_calls.proofs.Shared.Instants.{IsSame, acted-same, release-same, serve-same}
-use Rattle.law_calls.proofs.Shared.Places.{changed-at, change-else}
+use Rattle.law_lists.proofs.Shared.Places.{changed-at, change-else}
 
 -- releases leave the data of the objects as it is
 release_task-stores : (y : System) (i : ℕ) (o : Option Task) (s : State) → (release_task y i o s).0.stores ≡ s.stores

@@ -10,7 +10,7 @@ use Rattle.ods_tree.specs.Flats.{Flat}
 use Rattle.analysis.specs.Priorities.{priorities_of}
 use Rattle.analysis.specs.Sound.{IsSound}
 use Rattle.analysis.specs.Tables.{places_by_priority}
-use Rattle.law_calls.proofs.Shared.Lists.{IsIn, at-in, place-of, in-filter, filter-in, each-in}
+use Rattle.law_lists.proofs.Shared.Lists.{IsIn, at-in, place-of, in-filter, filter-in, each-in}
 use Rattle.law_designs.proofs.Shared.Lists.{has-at}
 use Rattle.law_orders.specs.Orders.{AllExternal, places_of, IsOrder, Passes, has_place, IsFilled, IsObstacle, IsFilledFrom, NoneIsLast}
 use Rattle.law_orders.proofs.Shared.OrderPlaces.{order-within, place-stands, stands-place, take-at, at-take}

@@ -22,7 +22,7 @@ use Rattle.analysis.specs.Execution.{called_cost, cost_within}
 use Rattle.analysis.specs.Sections.{live_calls}
 use Rattle.analysis.specs.Sound.{name_of}
 use Rattle.analysis.specs.Tables.{downwards}
-use Rattle.law_calls.proofs.Shared.Lists.{IsIn, any-at, any-in, at-in, in-map, in-some}
+use Rattle.law_lists.proofs.Shared.Lists.{IsIn, any-at, any-in, at-in, in-map, in-some}
 use Rattle.call_graph.specs.Numbers.{greatest_of}
 use Rattle.call_graph.specs.Entries.{Entry, entries, entry_at, entry_by, entry_of}
 use Rattle.call_graph.specs.declared.services.Served.{Served}

@@ -17,7 +17,7 @@ use Rattle.guarantee.specs.Events as deed
 use Rattle.guarantee.specs.Releases.{Released, release_by, releases}
 use Rattle.guarantee.specs.Software.{task_by, program_software}
 use Rattle.law_walks.specs.Walks.{same_value}
-use Rattle.law_calls.proofs.Shared.Facts.{is-same}
+use Rattle.law_lists.proofs.Shared.Facts.{is-same}
 use Rattle.law_calls.proofs.Shared.Apart.{units_apart}
 use Rattle.law_traces.specs.Checks.{on_time, is_periodic}
 use Rattle.law_trace_places.proofs.Shared.Units.{item-at, name-is, names-tell}

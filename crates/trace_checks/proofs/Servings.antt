@@ -15,7 +15,7 @@ use Rattle.guarantee.specs.Events.{Event, named_event}
 use Rattle.guarantee.specs.Requests.{Notice, Asked, Taken, Done, Pending, notice_by, notices}
 use Rattle.guarantee.specs.Software.{task_by, program_software}
 use Rattle.law_walks.specs.Walks.{same_value}
-use Rattle.law_calls.proofs.Shared.Facts.{is-same}
+use Rattle.law_lists.proofs.Shared.Facts.{is-same}
 use Rattle.law_calls.proofs.Shared.Apart.{units_apart}
 use Rattle.law_traces.specs.Checks.{are_served, is_requested}
 use Rattle.law_trace_places.proofs.Shared.Units.{item-at, name-is, names-tell}

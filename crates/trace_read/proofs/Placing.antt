@@ -12,7 +12,7 @@ use Rattle.ada_tree.specs.Bodies.{heads, data_of}
 use Rattle.ada_tree.specs.Rules.{MeetsRules}
 use Rattle.trace_tree.specs.Lines.{unit_name, unit_ops}
 use Rattle.trace_tree.specs.Placed.{IsUnit, IsOp}
-use Rattle.law_calls.proofs.Shared.Facts.{is-same}
+use Rattle.law_lists.proofs.Shared.Facts.{is-same}
 use Rattle.law_trace_places.proofs.Shared.Units.{item-at, name-is, unit-names, own-distinct}
 use Rattle.name_sets.proofs.Shared.PlaceLaws.{name-placed}
 use Rattle.name_sets.specs.FirstPlaces.{place_from}

@@ -17,7 +17,7 @@ use Rattle.ada_tree.specs.Rules.{MeetsRules}
 use Rattle.guarantee.specs.Software.{Task, program_software, task_by}
 use Rattle.law_calls.proofs.Shared.UnitNames.{AreApart}
 use Rattle.law_calls.proofs.Shared.Apart.{units_apart}
-use Rattle.law_calls.proofs.Shared.Facts.{is-same}
+use Rattle.law_lists.proofs.Shared.Facts.{is-same}
 use Rattle.law_traces.specs.Clear.{is_request, asked_op}
 use Rattle.law_traces.proofs.Shared.Finding.{same-turned}
 use Rattle.trace_scripts.specs.Scripts.{asked_name}

@@ -8,7 +8,7 @@ use Rattle.trace_read.specs.Deeds.{Reads, first_task, task_of}
 use Rattle.trace_scripts.specs.Insides.{entries_from, entry_from}
 use Rattle.trace_scripts.specs.Scripts.{IsAt}
 use Rattle.trace_scripts.specs.Serving.{objects_with, objects_from}
-use Rattle.law_calls.proofs.Shared.Lists.{each-drop}
+use Rattle.law_lists.proofs.Shared.Lists.{each-drop}
 
 -- AN EVENT at an index
 pub placed-at : (P : machine.Event → Type 0) (es : List machine.Event) (here : ℕ) (e : machine.Event) → IsAt es here e → Each P es → P e

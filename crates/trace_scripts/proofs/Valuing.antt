@@ -6,7 +6,7 @@ use Rattle.std.specs.Cmp.{both_ways}
 use Rattle.seq_tree.proofs.Shared.LoopSteps.{drop_step}
 use Rattle.seq_tree.specs.Names.{Name, same_name}
 use Rattle.seq_tree.specs.Variables.{Variables, read}
-use Rattle.law_calls.proofs.Shared.Facts.{same-is, is-same}
+use Rattle.law_lists.proofs.Shared.Facts.{same-is, is-same}
 
 turned : (a b : Name) → same_name a b ≡ same_name b a
 turned a b = both_ways (same_name a b) (same_name b a) (λ e. is-same b a (sym (same-is a b e))) (λ e. is-same a b (sym (same-is b a e)))

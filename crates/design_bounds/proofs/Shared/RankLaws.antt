@@ -5,11 +5,11 @@ use Rattle.ods_tree.specs.Flats.{Guarded, Thread, Timing, Cyclic, Sporadic, Flat
 use Rattle.analysis.specs.Ceilings.{Ranks, ceiling, ceiling_within, calls_from_inside, control_ceiling, greatest_user, uses_object, ranks, ranks_for}
 use Rattle.analysis.specs.Priorities.{priorities_of}
 use Rattle.analysis.specs.Sound.{IsSound}
-use Rattle.law_designs.proofs.Shared.Greatest.{fold-most}
+use Rattle.law_lists.proofs.Shared.Greatest.{fold-most}
 use Rattle.law_designs.proofs.Shared.Lists.{from-map}
 use Rattle.law_designs.proofs.Shared.RankRanges.{priority-range}
 use Rattle.law_designs.proofs.Shared.Units.{from-zip}
-use Rattle.law_calls.proofs.Shared.Lists.{each-in, each-is, in-filter}
+use Rattle.law_lists.proofs.Shared.Lists.{each-in, each-is, in-filter}
 
 -- what each item gives
 pub each-made : {A B : Type 0} (P : B → Type 0) (k : A → B) (xs : List A) → ((a : A) → P (k a)) → Each P (map k xs)

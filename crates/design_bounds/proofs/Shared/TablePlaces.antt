@@ -15,7 +15,7 @@ use Rattle.rt_response.specs.declared.rows.Miss as rows
 use Rattle.analysis.specs.Ceilings.{Ranks, ranks}
 use Rattle.analysis.specs.Priorities.{priorities_of}
 use Rattle.analysis.specs.Tables.{ThreadTable, downwards, row_at, row_of, table}
-use Rattle.law_calls.proofs.Shared.Places.{all-at}
+use Rattle.law_lists.proofs.Shared.Places.{all-at}
 use Rattle.law_designs.proofs.Shared.PriorityLists.{position-stands}
 use Rattle.law_designs.proofs.Shared.Lists.{has-at}
 use Rattle.law_designs.proofs.Shared.TabledPrograms.{long}

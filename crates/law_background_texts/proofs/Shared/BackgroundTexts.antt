@@ -27,13 +27,13 @@ use Rattle.analysis.specs.Ceilings.{ranks}
 use Rattle.guarantee.specs.Programs.{program, stated_ranks}
 use Rattle.design_rules.specs.Rules.{AreMet}
 use Rattle.law_designs.proofs.Shared.Lists.{all-from, all-in, from-map}
-use Rattle.law_designs.proofs.Shared.CostRanges.{within-true}
+use Rattle.analysis.proofs.Shared.CostRanges.{within-true}
 use Rattle.law_designs.proofs.Shared.ProgramRanges.{AreRanked}
 use Rattle.law_designs.proofs.Shared.RankRanges.{stated-ranked, room, priority-range}
 use Rattle.law_designs.proofs.Shared.SoundDesigns.{flat-sound}
 use Rattle.law_designs.proofs.Shared.Units.{unit-from, from-zip}
 use Rattle.law_designs.proofs.Shared.ProperTicks.{proper-in-ticks}
-use Rattle.law_calls.proofs.Shared.Lists.{IsIn}
+use Rattle.law_lists.proofs.Shared.Lists.{IsIn}
 use Rattle.ada_gen.specs.Heads.{is_thread_writable, is_head_writable}
 use Rattle.ada_gen.proofs.Shared.HeadLaws.{text-back}
 use Rattle.law_texts.proofs.Shared.LegibleObjects.{IsLegibleObject, objects-legible, name-legible}

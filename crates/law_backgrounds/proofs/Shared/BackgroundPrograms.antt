@@ -40,8 +40,8 @@ use Rattle.law_designs.proofs.Shared.ReadablePrograms.{rules-met}
 use Rattle.law_designs.proofs.Shared.ProperProgram.{AreProper, program-proper}
 use Rattle.law_designs.proofs.Shared.Units.{ranks-fit}
 use Rattle.law_designs.proofs.Shared.RankRanges.{stated-ranked, room}
-use Rattle.law_calls.proofs.Shared.Lists.{IsIn, at-in, each-by, each-map, zip-first}
-use Rattle.law_calls.proofs.Shared.Places.{mapped-at, all-at}
+use Rattle.law_lists.proofs.Shared.Lists.{IsIn, at-in, each-by, each-map, zip-first}
+use Rattle.law_lists.proofs.Shared.Places.{mapped-at, all-at}
 use Rattle.background_designs.specs.Clients.{is_client_name}
 use Rattle.background_designs.specs.HardParts.{hard_part}
 use Rattle.background_designs.specs.Misfits.{is_sporadic, slow_threads, requesting_clients}

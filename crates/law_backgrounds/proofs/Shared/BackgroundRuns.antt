@@ -48,8 +48,8 @@ use Rattle.law_designs.proofs.Shared.ProperTicks.{proper-in-ticks}
 use Rattle.law_designs.proofs.Shared.PriorityLists.{ranked_entry}
 use Rattle.law_designs.proofs.Shared.TabledPrograms.{long}
 use Rattle.law_designs.proofs.Shared.Lists.{from-map, named-from, has-at}
-use Rattle.law_calls.proofs.Shared.Lists.{in-filter, in-map, each-in, place-of}
-use Rattle.law_calls.proofs.Shared.Places.{map-at, all-at}
+use Rattle.law_lists.proofs.Shared.Lists.{in-filter, in-map, each-in, place-of}
+use Rattle.law_lists.proofs.Shared.Places.{map-at, all-at}
 use Rattle.std.proofs.lemmas.Option.{slice_get_within}
 use Rattle.background_designs.specs.Clients.{is_client, clients, is_client_name}
 use Rattle.background_designs.specs.HardParts.{hard_part}

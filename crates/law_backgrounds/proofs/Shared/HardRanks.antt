@@ -19,12 +19,12 @@ use Rattle.analysis.specs.Starts.{can_request}
 use Rattle.analysis.specs.Tables.{downwards}
 use Rattle.guarantee.specs.ResponseLaw.{Ranked}
 use Rattle.law_designs.proofs.Shared.Lists.{from-map, in-filter_map, named-from, named-at, key-eq, all-in}
-use Rattle.law_designs.proofs.Shared.CostRanges.{within-true}
+use Rattle.analysis.proofs.Shared.CostRanges.{within-true}
 use Rattle.law_designs.proofs.Shared.PriorityLists.{Entry, entry_by, entries, ranked_entry, in_order, Stands, entries-stand}
 use Rattle.law_designs.proofs.Shared.PriorityPlaces.{entry-at}
 use Rattle.law_designs.proofs.Shared.TabledPrograms.{long, all-entries}
-use Rattle.law_calls.proofs.Shared.Lists.{IsIn, at-in, in-map, filter-in, in-filter, each-in, in-flat}
-use Rattle.law_calls.proofs.Shared.Places.{all-at, mapped-at, map-at}
+use Rattle.law_lists.proofs.Shared.Lists.{IsIn, at-in, in-map, filter-in, in-filter, each-in, in-flat}
+use Rattle.law_lists.proofs.Shared.Places.{all-at, mapped-at, map-at}
 use Rattle.background_designs.specs.Clients.{is_client, clients, is_client_name}
 use Rattle.background_designs.specs.HardParts.{hard_object, hard_part}
 use Rattle.background_designs.specs.Misfits.{Misfit, A6, is_sporadic, slow_threads, requesting_clients}

@@ -22,7 +22,7 @@ use Rattle.design_rules.specs.Clashes.{has_block}
 use Rattle.design_rules.specs.Lookups.{has_thread}
 use Rattle.design_rules.specs.Rings.{thread_objects}
 use Rattle.law_designs.proofs.Shared.Lists.{from-map, none-told}
-use Rattle.law_calls.proofs.Shared.Lists.{IsIn, in-map, filter-in, in-made, found-in, any-in}
+use Rattle.law_lists.proofs.Shared.Lists.{IsIn, in-map, filter-in, in-made, found-in, any-in}
 use Rattle.background_designs.specs.Clients.{is_client, is_server, clients}
 use Rattle.background_designs.specs.HardParts.{soft_object, cyclic_client, protected_server, hard_object, hard_part}
 use Rattle.background_designs.specs.Misfits.{A5, is_slow, slow_threads}

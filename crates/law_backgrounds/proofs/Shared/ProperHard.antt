@@ -12,7 +12,7 @@ use Rattle.ods_tree.specs.declared.design.AttrKey.TheVariants.{Period, Deadline,
 use Rattle.ods_tree.specs.declared.design.VersionTwo.{VersionTwo}
 use Rattle.law_designs.proofs.Shared.ProperProgram.{AreProper}
 use Rattle.law_designs.proofs.Shared.Lists.{in-cases}
-use Rattle.law_calls.proofs.Shared.Lists.{IsIn, in-left, in-right, each-map}
+use Rattle.law_lists.proofs.Shared.Lists.{IsIn, in-left, in-right, each-map}
 use Rattle.background_designs.specs.Clients.{is_client, is_server}
 use Rattle.background_designs.specs.HardParts.{soft_operation, soft_object, longest, cyclic_client, protected_server, hard_object, hard_tree}
 use Rattle.background_designs.specs.HardParts.{hard_trees}

@@ -16,7 +16,7 @@ use Rattle.analysis.specs.Priorities.{priorities_of}
 use Rattle.analysis.specs.Tables.{starter_of}
 use Rattle.law_designs.proofs.Shared.Lists.{all-in}
 use Rattle.law_designs.proofs.Shared.TabledPrograms.{in-range, alone}
-use Rattle.law_calls.proofs.Shared.Lists.{IsIn, at-in, filter-in}
+use Rattle.law_lists.proofs.Shared.Lists.{IsIn, at-in, filter-in}
 use Rattle.background_designs.specs.Misfits.{is_sporadic}
 
 none-passes : {A : Type 0} (test : A → Bool) (xs : List A) → length (filter test xs) ≡ 0 → (j : ℕ) (y : A) → slice_get xs j ≡ Some y

@@ -15,8 +15,8 @@ use Rattle.arrivals_tree.specs.Arriving.{Arrivals, Durations}
 use Rattle.arrivals_tree.specs.Acceptance.{Unknown, Unfit, Far, Falling, has_nothing, durations_fault, works_fault, request_fault_by}
 use Rattle.arrivals_tree.specs.Acceptance.{request_fault_at, item_fault, requests_fault, last_time, IsAccepted}
 use Rattle.machine.specs.Systems.{System, TaskUnit, ReleasePattern, Periodic, Requested, Request, system, callee}
-use Rattle.law_calls.proofs.Shared.Facts.{or_else-none, not-fault, no-fault, same-is}
-use Rattle.law_calls.proofs.Shared.Lists.{each-append, each-to}
+use Rattle.law_lists.proofs.Shared.Facts.{or_else-none, not-fault, no-fault, same-is}
+use Rattle.law_lists.proofs.Shared.Lists.{each-append, each-to}
 use Rattle.law_calls.proofs.Shared.Systems.{thread_form, IsTaskOf, thread-at, IsAskedBy, LeadsTo, LeadsToTask, leads-to}
 use Rattle.law_calls.proofs.Shared.Threads.{durations-of}
 

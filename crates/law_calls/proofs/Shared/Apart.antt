@@ -8,8 +8,8 @@ use Rattle.ada_tree.specs.Naming.{breaks_naming, inner_names}
 use Rattle.ada_tree.specs.Rules.{Naming, At, MeetsRules}
 use Rattle.law_calls.proofs.Shared.UnitNames.{AreApart, apart, only-unit, unit-there}
 use Rattle.std.proofs.lemmas.Bool.{false_from_ne_true, or_parts}
-use Rattle.law_calls.proofs.Shared.Lists.{IsIn, place-of}
-use Rattle.law_calls.proofs.Shared.Facts.{same-self, is-same}
+use Rattle.law_lists.proofs.Shared.Lists.{IsIn, place-of}
+use Rattle.law_lists.proofs.Shared.Facts.{same-self, is-same}
 
 module _ (p : Program) (rules : MeetsRules p) where
   naming : (i : ℕ) (u : Unit) → slice_get p.units i ≡ Some u → breaks_naming p i u ≡ false

@@ -20,11 +20,11 @@ use Rattle.analysis.specs.Sections.{Section, live_calls, section, sections_by, s
 use Rattle.analysis.specs.Starts.{calls_by, service_calls, calls_within, starts_by, service_starts, starts_within, block_starts}
 use Rattle.analysis.specs.Sound.{name_of, Calls}
 use Rattle.law_calls.specs.CallLaws.{HaveNoRing}
-use Rattle.law_calls.proofs.Shared.Lists.{IsIn, in-map, in-flat, in-some, in-filter, filter-in, any-in, any-at, at-in, flat-same}
-use Rattle.law_calls.proofs.Shared.Depths.{Step, IsDeep, way-short, deep-all, settles}
+use Rattle.law_lists.proofs.Shared.Lists.{IsIn, in-map, in-flat, in-some, in-filter, filter-in, any-in, any-at, at-in, flat-same}
+use Rattle.law_lists.proofs.Shared.Depths.{Step, IsDeep, way-short, deep-all, settles}
 use Rattle.law_calls.proofs.Shared.Live.{live-in}
 use Rattle.law_calls.proofs.Shared.Services.{named-is}
-use Rattle.law_calls.proofs.Shared.Weights.{block-same}
+use Rattle.law_lists.proofs.Shared.Weights.{block-same}
 use Rattle.seq_tree.proofs.Shared.Walks.{same_op-eq, same_op-refl}
 
 module _ (ss : List Service) where

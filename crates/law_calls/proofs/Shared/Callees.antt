@@ -13,7 +13,7 @@ use Rattle.ods_tree.specs.Services as services
 use Rattle.guarantee.specs.Software.{program_software, all_services, task_by, guarded_by}
 use Rattle.guarantee.specs.Software as software
 use Rattle.law_calls.proofs.Shared.UnitNames.{AreOthers, IsUnit, find_others, find_unit}
-use Rattle.law_calls.proofs.Shared.Lists.{IsIn, in-some, in-parts}
+use Rattle.law_lists.proofs.Shared.Lists.{IsIn, in-some, in-parts}
 
 -- the operation of a name
 abbrev pub is_op : Name → Operation → Bool

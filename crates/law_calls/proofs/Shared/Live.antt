@@ -7,7 +7,7 @@ use Rattle.seq_tree.specs.Dearest.{turn_count}
 use Rattle.seq_tree.specs.Calls.{statement_calls, block_calls, branch_calls}
 use Rattle.seq_tree.specs.declared.tree.OpName.{OpName}
 use Rattle.analysis.specs.Sections.{live_statement, live_calls, live_branches}
-use Rattle.law_calls.proofs.Shared.Lists.{IsIn, in-left, in-right}
+use Rattle.law_lists.proofs.Shared.Lists.{IsIn, in-left, in-right}
 
 mutual
   statement-live-in : (s : Statement) (x : OpName) → IsIn x (live_statement s) → IsIn x (statement_calls s)

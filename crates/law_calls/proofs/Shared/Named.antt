@@ -18,7 +18,7 @@ use Rattle.law_calls.proofs.Shared.UnitNames.{AreOthers, AreApart, IsUnit, only-
 use Rattle.law_calls.proofs.Shared.Callees.{or_find, under, plain_of, protected_of, requests_of, own_ops, service_unit}
 use Rattle.law_calls.proofs.Shared.Resolved.{Resolved, No_one, One_plain, One_protected, One_request, resolve}
 use Rattle.law_calls.proofs.Shared.Systems.{thread_form, object-at, thread-at, LeadsTo, leads-to}
-use Rattle.law_calls.proofs.Shared.Facts.{is-same}
+use Rattle.law_lists.proofs.Shared.Facts.{is-same}
 
 found-unit : (name : Name) (front back : List Unit) (v : Unit) → AreOthers name front → same_name v.name name ≡ true
     → find (λ u. same_name u.name name) (front ++ v ∷ back) ≡ Some v

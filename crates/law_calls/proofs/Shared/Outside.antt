@@ -10,7 +10,7 @@ use Rattle.ada_tree.specs.Rules.{MeetsRules}
 use Rattle.arrivals_tree.specs.declared.arrivals.Arrival.{Arrival}
 use Rattle.arrivals_tree.specs.Arriving.{Arrivals}
 use Rattle.machine.specs.Systems.{TaskUnit, ReleasePattern, Periodic, Requested, system}
-use Rattle.law_calls.proofs.Shared.Facts.{same-is}
+use Rattle.law_lists.proofs.Shared.Facts.{same-is}
 use Rattle.law_calls.proofs.Shared.Systems.{thread_form, thread-at, LeadsToTask, IsAskedBy}
 use Rattle.law_calls.proofs.Shared.UnitRules.{externals-kept}
 use Rattle.law_calls.proofs.Shared.Accepted.{IsExternal, IsFor}

@@ -13,13 +13,13 @@ use Rattle.ada_tree.specs.Rules.{Rings, At, MeetsRules}
 use Rattle.arrivals_tree.specs.Arriving.{Arrivals}
 use Rattle.guarantee.specs.ResponseLaw.{program_services}
 use Rattle.machine.specs.Systems.{System, CallTarget, Plain, Protected, Request, Unknown, system, callee}
-use Rattle.law_calls.proofs.Shared.Lists.{IsIn, at-in, in-flat, in-map, any-in, filter-in}
+use Rattle.law_lists.proofs.Shared.Lists.{IsIn, at-in, in-flat, in-map, any-in, filter-in}
 use Rattle.law_calls.proofs.Shared.Systems.{library-at, LeadsToPlain, LeadsTo, leads-to}
 use Rattle.law_calls.proofs.Shared.Apart.{units_apart}
-use Rattle.law_calls.proofs.Shared.Depths.{Step, IsDeep, deep-all}
+use Rattle.law_lists.proofs.Shared.Depths.{Step, IsDeep, deep-all}
 use Rattle.law_calls.proofs.Shared.Named.{ServedAs, served-as}
 use Rattle.law_calls.proofs.Shared.Services.{named-is}
-use Rattle.law_calls.proofs.Shared.Facts.{same-is}
+use Rattle.law_lists.proofs.Shared.Facts.{same-is}
 use Rattle.analysis.specs.Sound.{name_of}
 use Rattle.std.specs.List.{list_any}
 use Rattle.seq_tree.proofs.Shared.Walks.{same_op-eq, same_op-refl}

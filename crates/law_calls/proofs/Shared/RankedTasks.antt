@@ -11,7 +11,7 @@ use Rattle.guarantee.specs.Software.{Task, task_by}
 use Rattle.guarantee.specs.ResponseLaw.{Ranked, priority_of, ranked}
 use Rattle.machine.specs.Systems.{TaskUnit, ReleasePattern, Periodic, Requested, system}
 use Rattle.law_calls.proofs.Shared.Systems.{thread_form, thread-at}
-use Rattle.law_calls.proofs.Shared.Lists.{each-made}
+use Rattle.law_lists.proofs.Shared.Lists.{each-made}
 
 -- a task of the system among those of the program
 pub record IsRanked (P : Ranked → Type 0) (t : TaskUnit) : Type 0 where

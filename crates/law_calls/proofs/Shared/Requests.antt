@@ -13,9 +13,9 @@ use Rattle.ada_tree.specs.Programs.{Form, Unit, Program, Passive, Shared, Cyclic
 use Rattle.ada_tree.specs.Bodies.{heads, offers}
 use Rattle.ada_tree.specs.Naming.{calls_of}
 use Rattle.ada_tree.specs.Uses.{shared_ops, ops_of_shared, shared_named, calls_within, task_calls, is_requested}
-use Rattle.law_calls.proofs.Shared.Facts.{same-is}
-use Rattle.law_calls.proofs.Shared.Lists.{IsIn, at-in, in-map, in-flat, in-some, in-filter, any-in, any-at}
-use Rattle.law_calls.proofs.Shared.Reaching.{among-is, within-closed}
+use Rattle.law_lists.proofs.Shared.Facts.{same-is}
+use Rattle.law_lists.proofs.Shared.Lists.{IsIn, at-in, in-map, in-flat, in-some, in-filter, any-in, any-at}
+use Rattle.law_lists.proofs.Shared.Reaching.{among-is, within-closed}
 
 -- a protected operation of this name in a unit
 pub record IsShared (p : Program) (c : OpName) (op : Operation) : Type 0 where

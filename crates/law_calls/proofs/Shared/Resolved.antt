@@ -22,7 +22,7 @@ use Rattle.law_calls.proofs.Shared.UnitNames.{AreOthers, AreApart, IsUnit, unit_
 use Rattle.law_calls.proofs.Shared.UnitNames.{find_unit}
 use Rattle.law_calls.proofs.Shared.Callees.{is_op, or_find, under, plain_of, protected_of, requests_of, own_ops, service_others, service_unit}
 use Rattle.std.proofs.lemmas.Option.{none-some, same_Some}
-use Rattle.law_calls.proofs.Shared.Facts.{same-is, is-same, first-where}
+use Rattle.law_lists.proofs.Shared.Facts.{same-is, is-same, first-where}
 
 -- the operation by which a task is requested
 abbrev pub asked_by : ReleasePattern → Name

@@ -19,13 +19,13 @@ use Rattle.ods_tree.specs.Services as sort
 use Rattle.analysis.specs.Sound.{name_of, Calls}
 use Rattle.guarantee.specs.ResponseLaw.{program_services}
 use Rattle.law_calls.specs.CallLaws.{HaveNoRing}
-use Rattle.law_calls.proofs.Shared.Facts.{same-self, is-same}
-use Rattle.law_calls.proofs.Shared.Lists.{IsIn, at-in, in-map, in-flat, in-some, in-filter, filter-in, any-in, any-at, place-of}
-use Rattle.law_calls.proofs.Shared.Reaching.{among-is}
+use Rattle.law_lists.proofs.Shared.Facts.{same-self, is-same}
+use Rattle.law_lists.proofs.Shared.Lists.{IsIn, at-in, in-map, in-flat, in-some, in-filter, filter-in, any-in, any-at, place-of}
+use Rattle.law_lists.proofs.Shared.Reaching.{among-is}
 use Rattle.law_calls.proofs.Shared.Services.{IsOf, IsOffered, service-of, passive-body, confined-plain}
 use Rattle.law_calls.proofs.Shared.UnitRules.{call-passive}
 use Rattle.law_calls.proofs.Shared.Apart.{one-unit}
-use Rattle.law_calls.proofs.Shared.Facts.{same-is}
+use Rattle.law_lists.proofs.Shared.Facts.{same-is}
 use Rattle.seq_tree.proofs.Shared.Walks.{same_op-eq, same_op-refl}
 
 -- a passive unit of this name

@@ -13,8 +13,8 @@ use Rattle.ods_tree.specs.Services as sort
 use Rattle.analysis.specs.Sections.{Section, live_calls, section, sections_by, service_sections, sections_within}
 use Rattle.analysis.specs.Sound.{name_of}
 use Rattle.law_calls.specs.CallLaws.{HaveNoRing}
-use Rattle.law_calls.proofs.Shared.Lists.{IsIn, in-map, in-flat, any-in}
-use Rattle.law_calls.proofs.Shared.Reaching.{among-is, is-among, within-closed}
+use Rattle.law_lists.proofs.Shared.Lists.{IsIn, in-map, in-flat, any-in}
+use Rattle.law_lists.proofs.Shared.Reaching.{among-is, is-among, within-closed}
 use Rattle.law_calls.proofs.Shared.Services.{named-is}
 use Rattle.law_calls.proofs.Shared.Bodies.{sections-cover}
 

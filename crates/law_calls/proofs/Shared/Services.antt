@@ -13,8 +13,8 @@ use Rattle.ods_tree.specs.Services.{Service, Sort, is_service, service_named}
 use Rattle.ods_tree.specs.Services as sort
 use Rattle.analysis.specs.Sound.{name_of}
 use Rattle.guarantee.specs.ResponseLaw.{program_services}
-use Rattle.law_calls.proofs.Shared.Facts.{same-is}
-use Rattle.law_calls.proofs.Shared.Lists.{IsIn, in-map, found-in}
+use Rattle.law_lists.proofs.Shared.Facts.{same-is}
+use Rattle.law_lists.proofs.Shared.Lists.{IsIn, in-map, found-in}
 use Rattle.law_calls.proofs.Shared.Callees.{plain_of, protected_of, requests_of, in-services}
 
 -- the operation of a name has that name

@@ -20,9 +20,9 @@ use Rattle.analysis.specs.Starts.{block_starts}
 use Rattle.analysis.specs.Sound.{name_of}
 use Rattle.guarantee.specs.ResponseLaw.{program_services}
 use Rattle.machine.specs.Systems.{TaskUnit, ReleasePattern, Periodic, Requested, CallTarget, Plain, Protected, Request, Unknown, system, callee}
-use Rattle.law_calls.proofs.Shared.Facts.{same-is, is-same}
-use Rattle.law_calls.proofs.Shared.Lists.{IsIn, at-in, in-flat, in-some, filter-in, any-in, place-of}
-use Rattle.law_calls.proofs.Shared.Weights.{count-none}
+use Rattle.law_lists.proofs.Shared.Facts.{same-is, is-same}
+use Rattle.law_lists.proofs.Shared.Lists.{IsIn, at-in, in-flat, in-some, filter-in, any-in, place-of}
+use Rattle.law_lists.proofs.Shared.Weights.{count-none}
 use Rattle.law_calls.proofs.Shared.Services.{named-is, IsOf, IsOffered, service-of, passive-body, confined-plain}
 use Rattle.law_calls.proofs.Shared.Systems.{thread_form, thread-at}
 use Rattle.law_calls.proofs.Shared.Bodies.{starts-cover}

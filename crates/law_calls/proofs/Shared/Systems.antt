@@ -14,8 +14,8 @@ use Rattle.arrivals_tree.specs.Arriving.{Arrivals, durations}
 use Rattle.machine.specs.Systems.{System, TaskUnit, ProtectedUnit, PassiveUnit, ReleasePattern, Periodic, Requested, CallTarget, Plain}
 use Rattle.machine.specs.Systems.{Protected, Request, Unknown, library_by, object_by, thread_by, system, op_named, plain_by, protected_by}
 use Rattle.machine.specs.Systems.{request_if, request_by, object_or, library_or, callee}
-use Rattle.law_calls.proofs.Shared.Lists.{made-at, places-differ}
-use Rattle.law_calls.proofs.Shared.Facts.{first-where}
+use Rattle.law_lists.proofs.Shared.Lists.{made-at, places-differ}
+use Rattle.law_lists.proofs.Shared.Facts.{first-where}
 use Rattle.std.proofs.lemmas.Bool.{true≢false}
 
 -- the unit of a library, of an object and of a task

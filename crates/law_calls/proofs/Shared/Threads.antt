@@ -10,9 +10,9 @@ use Rattle.ada_tree.specs.Rules.{MeetsRules}
 use Rattle.arrivals_tree.specs.Arriving.{Arrivals, durations}
 use Rattle.trace_tree.specs.Lines.{unit_name, unit_ops}
 use Rattle.machine.specs.Systems.{system, TaskUnit, ProtectedUnit, thread_by}
-use Rattle.law_calls.proofs.Shared.Facts.{same-is, is-same}
-use Rattle.law_calls.proofs.Shared.Lists.{made-at}
-use Rattle.law_calls.proofs.Shared.Places.{all-at}
+use Rattle.law_lists.proofs.Shared.Facts.{same-is, is-same}
+use Rattle.law_lists.proofs.Shared.Lists.{made-at}
+use Rattle.law_lists.proofs.Shared.Places.{all-at}
 use Rattle.law_calls.proofs.Shared.UnitNames.{AreApart, name-at}
 use Rattle.law_calls.proofs.Shared.Apart.{units_apart}
 use Rattle.law_calls.proofs.Shared.Systems.{thread-is, object-at, thread-at, objects-differ, threads-differ}

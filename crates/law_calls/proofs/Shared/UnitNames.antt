@@ -9,8 +9,8 @@ use Rattle.ada_tree.specs.Programs.{Unit, Program}
 use Rattle.trace_tree.specs.Lines.{unit_name}
 use Rattle.std.proofs.lemmas.Option.{none-some, same_Some}
 use Rattle.std.proofs.lemmas.Bool.{both_ways, true≢false, false_from_ne_true, or_parts}
-use Rattle.law_calls.proofs.Shared.Facts.{same-is, is-same}
-use Rattle.law_calls.proofs.Shared.Places.{all-at}
+use Rattle.law_lists.proofs.Shared.Facts.{same-is, is-same}
+use Rattle.law_lists.proofs.Shared.Places.{all-at}
 
 other_way : (a b : Name) → same_name a b ≡ false → same_name b a ≡ false
 other_way a b e = false_from_ne_true (same_name b a) (λ h. true≢false (sym (is-same a b (sym (same-is b a h))) ∙ e))

@@ -17,8 +17,8 @@ use Rattle.ada_tree.specs.Rules.{Uses, Bodies, Ranges, Externals, At, Whole, Mee
 use Rattle.seq_tree.specs.Operations.{Operation, Signature}
 use Rattle.arrivals_tree.specs.Arriving.{Arrivals}
 use Rattle.machine.specs.Systems.{TaskUnit, ProtectedUnit, ReleasePattern, Periodic, Requested, system}
-use Rattle.law_calls.proofs.Shared.Facts.{or_else-none}
-use Rattle.law_calls.proofs.Shared.Lists.{IsIn, at-in, in-map, in-flat, none-in}
+use Rattle.law_lists.proofs.Shared.Facts.{or_else-none}
+use Rattle.law_lists.proofs.Shared.Lists.{IsIn, at-in, in-map, in-flat, none-in}
 use Rattle.law_calls.proofs.Shared.Systems.{thread_form, object-at, thread-at}
 
 -- the bodies of a form

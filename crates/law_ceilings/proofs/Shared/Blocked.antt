@@ -33,8 +33,8 @@ use Rattle.law_ceilings.proofs.Shared.Stopping.{priority-at}
 use Rattle.law_ceilings.proofs.Owing.{Owes, Owing, owes-mono, owes-tick, owes-first, IsCallPaid, IsPaidPiece, done-owes, later, weights}
 use Rattle.law_ceilings.proofs.Shared.Paying.{limits-text, IsShort, IsCalm, IsPaid, ArePaid, closers-rest, high-inside, gate-paid, release-paid}
 use Rattle.law_ceilings.proofs.Shared.Paying.{serve-paid, entry-calls, acted-paid}
-use Rattle.law_calls.proofs.Shared.Facts.{first-where}
-use Rattle.law_calls.proofs.Shared.Places.{changed}
+use Rattle.law_lists.proofs.Shared.Facts.{first-where}
+use Rattle.law_lists.proofs.Shared.Places.{changed}
 use Rattle.std.proofs.lemmas.Bool.{false≢true}
 
 module _ (y : System) (lev bound : ℕ) (l : IsLimited y lev bound) where

@@ -24,12 +24,12 @@ use Rattle.law_calls.proofs.Shared.Apart.{units_apart}
 use Rattle.law_ceilings.specs.Bodies.{BlockFits}
 use Rattle.law_ceilings.specs.Ceilings.{IsCeiled}
 use Rattle.law_ceilings.proofs.Layers.{EntersAbove, IsPassiveCall, IsCallAbove, StaysAbove, layered-ceiled}
-use Rattle.law_calls.proofs.Shared.Lists.{IsIn, at-in, each-is, each-made}
+use Rattle.law_lists.proofs.Shared.Lists.{IsIn, at-in, each-is, each-made}
 use Rattle.law_calls.proofs.Shared.Systems.{library-at, object-at, LeadsTo, leads-to, passive-call}
 use Rattle.law_ceilings.proofs.Shared.Programs.{body-fits}
 use Rattle.law_calls.proofs.Shared.UnitRules.{call-passive, op-body-in, task-body, priority-within, object-within}
 use Rattle.law_calls.proofs.Shared.Named.{ServedAs, served-as}
-use Rattle.law_calls.proofs.Shared.Facts.{same-is}
+use Rattle.law_lists.proofs.Shared.Facts.{same-is}
 use Rattle.law_calls.proofs.Shared.RankedTasks.{ranked-at}
 
 -- ceilings of sections

@@ -26,8 +26,8 @@ use Rattle.law_ceilings.proofs.Shared.Arrivals.{step-arrivals}
 use Rattle.law_ceilings.proofs.Shared.Moves.{stacked-base, stacked-ceiling, among-inside}
 use Rattle.law_ceilings.proofs.Shared.Keeping.{AreWritten, opening-keeps, step-keeps}
 use Rattle.law_ceilings.proofs.Shared.Passing.{Face, face, faces, into, out_of, IsEntering, Passing, Stays, Enters, Leaves, step-passing}
-use Rattle.law_calls.proofs.Shared.Facts.{first-where}
-use Rattle.law_calls.proofs.Shared.Places.{changed}
+use Rattle.law_lists.proofs.Shared.Facts.{first-where}
+use Rattle.law_lists.proofs.Shared.Places.{changed}
 
 below-mono : (rank : ℕ → ℕ) (n m : ℕ) (ss : List Resource) → m ≤ n → IsBelow rank n ss → IsBelow rank m ss
 below-mono rank n m [] less h = tt

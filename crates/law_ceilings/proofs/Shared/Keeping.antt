@@ -29,8 +29,8 @@ use Rattle.law_ceilings.proofs.Shared.Kept.{IsPeriodic, IsAtRest, IsSound, GoesB
 use Rattle.law_ceilings.proofs.Shared.Fitting.{block-closers, block-fit, ActFits, done-fits}
 use Rattle.law_ceilings.proofs.Shared.Moves.{empty, gone_on, entered, left-section, ended-one, released-one, halted, begun}
 use Rattle.law_ceilings.proofs.Dispatching.{IsFirst, dispatched-first}
-use Rattle.law_calls.proofs.Shared.Facts.{first-where}
-use Rattle.law_calls.proofs.Shared.Places.{change-none}
+use Rattle.law_lists.proofs.Shared.Facts.{first-where}
+use Rattle.law_lists.proofs.Shared.Places.{change-none}
 use Rattle.std.proofs.lemmas.Bool.{and_parts, false≢true}
 
 -- a task that goes on, written out

@@ -23,7 +23,7 @@ use Rattle.machine.specs.States.{Object, Control}
 use Rattle.machine.specs.Effects.{ceiling_of, ceiling_by}
 use Rattle.law_ceilings.specs.Bodies.{BlockFits, HasExitsInLoops}
 use Rattle.law_ceilings.specs.Limits.{Costing, IsMade, CostsAtMost, IsLimited}
-use Rattle.law_calls.proofs.Shared.Lists.{IsIn, at-in, in-flat, in-some, any-in, any-at, each-is}
+use Rattle.law_lists.proofs.Shared.Lists.{IsIn, at-in, in-flat, in-some, any-in, any-at, each-is}
 use Rattle.law_calls.proofs.Shared.Systems.{library-at, object-at, LeadsTo, leads-to, passive-call, is_free, free-is}
 use Rattle.law_ceilings.proofs.Shared.Programs.{body-fits}
 use Rattle.law_ceilings.proofs.Texts.{live-fits}
@@ -33,7 +33,7 @@ use Rattle.law_calls.proofs.Shared.Named.{IsServed, IsRequestServed, ServedAs, s
 use Rattle.law_calls.proofs.Shared.Costs.{PaysCall, pays-call}
 use Rattle.law_calls.proofs.Shared.Rings.{no-ring}
 use Rattle.law_calls.proofs.Shared.Apart.{units_apart}
-use Rattle.law_calls.proofs.Shared.Facts.{or_second}
+use Rattle.law_lists.proofs.Shared.Facts.{or_second}
 use Rattle.std.proofs.lemmas.Bool.{and_parts, or_left, or_right}
 use Rattle.seq_tree.proofs.Shared.Walks.{same_op-eq, same_op-refl}
 use Rattle.law_calls.proofs.Shared.RankedTasks.{ranked-at}

@@ -14,7 +14,7 @@ use Rattle.law_ceilings.proofs.Shared.Pieces.{Permission, closers, AreFit}
 use Rattle.law_ceilings.specs.Sections.{Stands, IsNumbered, AreStacked, sections, IsAmong}
 use Rattle.law_ceilings.proofs.Shared.Kept.{IsAtRest, IsSound, GoesBefore, IsKept}
 use Rattle.law_ceilings.proofs.OrderNumbers.{last-above, last-else, length-last, first-below, first-else, length-first}
-use Rattle.law_calls.proofs.Shared.Places.{length-change, changed}
+use Rattle.law_lists.proofs.Shared.Places.{length-change, changed}
 
 -- no base priority is above the active one
 pub stacked-base : (y : System) (base active : ℕ) (hs : List Held) → AreStacked y base active hs → base ≤ active

@@ -28,7 +28,7 @@ use Rattle.law_ceilings.proofs.Shared.Moves.{empty}
 use Rattle.law_ceilings.proofs.Shared.Keeping.{AreWritten, first_left, going-is, map-empty}
 use Rattle.law_ceilings.proofs.Shared.Stopping.{priority-at}
 use Rattle.law_ceilings.proofs.Owing.{Owes, Owing, owes-mono, block-owes, later, weight, weights}
-use Rattle.law_calls.proofs.Shared.Places.{changed}
+use Rattle.law_lists.proofs.Shared.Places.{changed}
 use Rattle.std.proofs.lemmas.Bool.{true≢false}
 
 -- the text of a system with limits

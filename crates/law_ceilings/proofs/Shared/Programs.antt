@@ -24,8 +24,8 @@ use Rattle.machine.specs.States.{opening}
 use Rattle.machine.specs.Meanings.{Meaning, run, start}
 use Rattle.trace_tree.specs.declared.event.Event.{Event}
 use Rattle.trace_tree.specs.Exclusion.{Exclusive}
-use Rattle.law_calls.proofs.Shared.Facts.{same-is, or_second}
-use Rattle.law_calls.proofs.Shared.Lists.{IsIn, at-in, in-map, in-flat, any-in, filter-in, each-to}
+use Rattle.law_lists.proofs.Shared.Facts.{same-is, or_second}
+use Rattle.law_lists.proofs.Shared.Lists.{IsIn, at-in, in-map, in-flat, any-in, filter-in, each-to}
 use Rattle.law_calls.proofs.Shared.Systems.{library-at, object-at, objects-differ, threads-differ, LeadsTo, leads-to, passive-call, is_free, free-is}
 use Rattle.law_calls.proofs.Shared.UnitRules.{op-body-in, task-body, call-in, body-kept, call-passive, control-covers}
 use Rattle.law_calls.proofs.Shared.Outside.{requested-elsewhere}

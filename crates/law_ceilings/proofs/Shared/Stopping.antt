@@ -25,7 +25,7 @@ use Rattle.law_ceilings.specs.Ceilings.{IsMadeFrom, RisesTo, IsCeiled, priority_
 use Rattle.law_ceilings.proofs.Shared.Permissions.{level, Rises, AllRise}
 use Rattle.law_ceilings.proofs.Shared.Fitting.{block-weaken, ActFits, done-fits, IsEntered}
 use Rattle.law_ceilings.proofs.Shared.Keeping.{AreWritten, opening-keeps, step-keeps}
-use Rattle.law_calls.proofs.Shared.Lists.{each-append}
+use Rattle.law_lists.proofs.Shared.Lists.{each-append}
 
 -- the active priority is that of the innermost section, or the base one
 pub stacked-level : (y : System) (base active : ℕ) (hs : List Held) → AreStacked y base active hs → active ≡ level y base (map (λ h. h.section) hs)

@@ -19,7 +19,7 @@ use Rattle.law_ceilings.proofs.Shared.Permissions.{AllFall}
 use Rattle.law_ceilings.proofs.Shared.Excludes.{IsThere, AreHeld, Excludes}
 use Rattle.law_ceilings.proofs.Shared.Passing.{Face, face, faces, into, out_of, Passing, Stays, Enters, Leaves, step-passing}
 use Rattle.law_ceilings.proofs.Shared.Excluding.{face-at, at-face, falls-text, falls-bars, entry-free, step-excludes, opening-excludes}
-use Rattle.law_calls.proofs.Shared.Places.{change-at, change-else, changed}
+use Rattle.law_lists.proofs.Shared.Places.{change-at, change-else, changed}
 
 -- turns after the enter of a task, where one is inside
 abbrev pub TakesTurnsFrom : Option ℕ → List Passage → Type 0

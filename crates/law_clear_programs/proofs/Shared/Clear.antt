@@ -25,14 +25,14 @@ use Rattle.machine.specs.Systems.{System, system, CallTarget, Plain, Protected, 
 use Rattle.guarantee.specs.Software.{Task, Software, program_software, all_services, leads_to, guarded_by, task_by}
 use Rattle.guarantee.specs.ResponseLaw.{program_services}
 use Rattle.analysis.specs.Sound.{name_of}
-use Rattle.law_calls.proofs.Shared.Depths.{IsDeep}
+use Rattle.law_lists.proofs.Shared.Depths.{IsDeep}
 use Rattle.law_calls.proofs.Shared.Passives.{passive_by, passive_calls, passive-deep}
 use Rattle.law_calls.proofs.Shared.UnitNames.{AreApart}
 use Rattle.law_calls.proofs.Shared.Apart.{units_apart, one-unit}
-use Rattle.law_calls.proofs.Shared.Lists.{IsIn, found-in}
+use Rattle.law_lists.proofs.Shared.Lists.{IsIn, found-in}
 use Rattle.law_calls.proofs.Shared.Callees.{plain_of, protected_of, requests_of, in-services}
 use Rattle.law_calls.proofs.Shared.Services.{named-is}
-use Rattle.law_calls.proofs.Shared.Facts.{same-self, same-is}
+use Rattle.law_lists.proofs.Shared.Facts.{same-self, same-is}
 use Rattle.law_tasks.proofs.Shared.Courses.{IsApt, IsFitCallee, FitStatement, FitBlock, FitBranches, seen}
 use Rattle.law_tasks.proofs.Shared.Programs.{Leads, course}
 use Rattle.law_tasks.proofs.Shared.AptPrograms.{apt, fit_body}

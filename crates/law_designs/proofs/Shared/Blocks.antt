@@ -23,8 +23,8 @@ use Rattle.law_designs.proofs.Shapes.{counted_name, Right, calls-counted, calls-
 use Rattle.law_designs.proofs.Shared.Flattened.{operation-from, thread-from, terminal-object}
 use Rattle.law_designs.proofs.Shared.ObjectRules.{body-right, thread-right, operations-right, parts-fit, not-active, no-clash}
 use Rattle.law_designs.proofs.Shared.Served.{Kept}
-use Rattle.law_calls.proofs.Shared.Facts.{same-is}
-use Rattle.law_calls.proofs.Shared.Lists.{IsIn, in-made, found-in}
+use Rattle.law_lists.proofs.Shared.Facts.{same-is}
+use Rattle.law_lists.proofs.Shared.Lists.{IsIn, in-made, found-in}
 
 -- an operation that an object requires, and that is there
 pub record Needed (x : Design) (o : Object) (name : OpName) : Type 0 where

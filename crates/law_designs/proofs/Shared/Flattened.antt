@@ -15,7 +15,7 @@ use Rattle.ods_tree.specs.Services.{Service, plain_services, protected_services,
 use Rattle.ods_tree.specs.declared.design.Kind.{Kind}
 use Rattle.ods_tree.specs.declared.design.Kind.TheVariants as kind
 use Rattle.law_designs.proofs.Shared.Lists.{in-cases, in-filter_map}
-use Rattle.law_calls.proofs.Shared.Lists.{in-filter, IsIn, in-some, in-made}
+use Rattle.law_lists.proofs.Shared.Lists.{in-filter, IsIn, in-some, in-made}
 
 -- the entries that objects give
 abbrev pub library_by : Design → Object → Library

@@ -5,8 +5,8 @@ use Rattle.std.specs.List.{list_any, list_all, cons_option, enumerate_from}
 use Rattle.std.proofs.lemmas.Bool.{and_parts, false_from_ne_true, not-true}
 use Rattle.seq_tree.specs.Names.{Name, same_name, is_named, are_distinct}
 use Rattle.ods_tree.specs.Walk.{only_if}
-use Rattle.law_calls.proofs.Shared.Facts.{same-is, same-self, is-same}
-use Rattle.law_calls.proofs.Shared.Lists.{in-map, any-in, at-in, IsIn, any-at, in-made, found-in}
+use Rattle.law_lists.proofs.Shared.Facts.{same-is, same-self, is-same}
+use Rattle.law_lists.proofs.Shared.Lists.{in-map, any-in, at-in, IsIn, any-at, in-made, found-in}
 
 pub in-cases : {A : Type 0} (xs ys : List A) (a : A) → IsIn a (xs ++ ys) → IsIn a xs ⊎ IsIn a ys
 in-cases [] ys a h = inr h

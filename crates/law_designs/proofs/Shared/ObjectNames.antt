@@ -18,8 +18,8 @@ use Rattle.design_rules.specs.Clashes.{Role, Whole, Single, Member, Parameter, M
 use Rattle.design_rules.specs.Clashes.{thread_mentions, object_mentions, is_bodied, is_taken, clashes_after, clashes}
 use Rattle.law_designs.proofs.Shared.Lists.{in-cases, from-map, unnamed-from, differ-if, placed, distinct-append, distinct-taken, key-eq, unnamed-at}
 use Rattle.law_designs.proofs.Shared.Flattened.{library_by, guarded_by, library-from, guarded-from, thread-from, timed-kind}
-use Rattle.law_calls.proofs.Shared.Facts.{is-same}
-use Rattle.law_calls.proofs.Shared.Lists.{in-left, in-map, in-flat, in-filter, none-in, IsIn}
+use Rattle.law_lists.proofs.Shared.Facts.{is-same}
+use Rattle.law_lists.proofs.Shared.Lists.{in-left, in-map, in-flat, in-filter, none-in, IsIn}
 
 pub free-head : (b : Bool) (a : Broken) (rest : List Broken) → cons_option (only_if b a) rest ≡ [] → (b ≡ false) × (rest ≡ [])
 free-head true a rest e = absurd (let z : a ∷ rest ≡ [] = e in cc)

@@ -33,7 +33,7 @@ use Rattle.ods_tree.specs.declared.design.AttrKey.TheVariants.{Separation}
 use Rattle.ada_tree.specs.Words.{is_ada_name}
 use Rattle.law_designs.proofs.Shared.Lists.{in-filter_map, in-none, none-told}
 use Rattle.law_designs.proofs.Shared.Resolving.{Fit}
-use Rattle.law_calls.proofs.Shared.Lists.{in-map, in-flat, filter-in, IsIn}
+use Rattle.law_lists.proofs.Shared.Lists.{in-map, in-flat, filter-in, IsIn}
 
 -- a list with nothing at any place is empty
 pub none_listed : (all : List Broken) → ((place : ℕ) (told : Broken) → IsListed all place told → ⊥) → all ≡ []

@@ -32,8 +32,8 @@ use Rattle.law_designs.proofs.Shared.ObjectRules.{no-clash, body-right, thread-r
 use Rattle.law_designs.proofs.Shared.ObjectNames.{op-names}
 use Rattle.law_designs.proofs.Shared.Served.{Meant, meant}
 use Rattle.law_designs.proofs.Shared.Blocks.{NeededOffer, needed-offer, kept}
-use Rattle.law_calls.proofs.Shared.Facts.{same-is, is-same}
-use Rattle.law_calls.proofs.Shared.Lists.{IsIn, found-in}
+use Rattle.law_lists.proofs.Shared.Facts.{same-is, is-same}
+use Rattle.law_lists.proofs.Shared.Lists.{IsIn, found-in}
 
 -- a service as it is offered
 abbrev pub offer_by : Service → Offer

@@ -32,7 +32,7 @@ use Rattle.law_designs.proofs.Shared.Units.{UnitFrom, OfLibrary, OfGuarded, OfTh
 use Rattle.law_designs.proofs.Shared.Offers.{Fitting}
 use Rattle.law_designs.proofs.Externals.{asked-of}
 use Rattle.law_designs.proofs.Shared.Started.{Asked}
-use Rattle.law_calls.proofs.Shared.Lists.{in-left, in-right, in-flat, none-in, IsIn, in-some, found-in}
+use Rattle.law_lists.proofs.Shared.Lists.{in-left, in-right, in-flat, none-in, IsIn, in-some, found-in}
 
 inside : (low high n : ℕ) → is_within low high n ≡ true → is_outside low high n ≡ false
 inside low high n h = grind arith

@@ -19,10 +19,10 @@ use Rattle.guarantee.specs.Programs.{passive_unit, shared_unit, thread_form, thr
 use Rattle.guarantee.specs.ResponseLaw.{Ranked, priority_of, ceiling_of, ceiling_named, ranked, program_services}
 use Rattle.guarantee.proofs.Shared.Same.{program_for-software}
 use Rattle.law_designs.proofs.Shared.PriorityLists.{Entry, ranked_entry}
-use Rattle.law_calls.proofs.Shared.Lists.{each-append, each-to, each-in}
-use Rattle.law_calls.proofs.Shared.Facts.{same-is}
+use Rattle.law_lists.proofs.Shared.Lists.{each-append, each-to, each-in}
+use Rattle.law_lists.proofs.Shared.Facts.{same-is}
 use Rattle.std.proofs.lemmas.Bool.{both_ways}
-use Rattle.law_designs.proofs.Shared.Greatest.{at-most}
+use Rattle.law_lists.proofs.Shared.Greatest.{at-most}
 
 -- the task of a unit
 abbrev ranked_by : Unit → Option Ranked

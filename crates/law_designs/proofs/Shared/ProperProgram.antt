@@ -42,8 +42,8 @@ use Rattle.law_designs.proofs.Shared.ObjectRules.{names-stand, own-names-stand, 
 use Rattle.law_designs.proofs.Shared.Served.{Meant, meant}
 use Rattle.law_designs.proofs.Shared.Blocks.{Needed, AreNeeded, needed-call, body-needed, thread-needed, kept}
 use Rattle.law_designs.proofs.Shared.Units.{UnitFrom, OfLibrary, OfGuarded, OfThread, unit-from, from-zip}
-use Rattle.law_calls.proofs.Shared.Facts.{same-is}
-use Rattle.law_calls.proofs.Shared.Lists.{in-left, in-right, in-map, in-flat, each-in, each-is, none-in, IsIn, found-in}
+use Rattle.law_lists.proofs.Shared.Facts.{same-is}
+use Rattle.law_lists.proofs.Shared.Lists.{in-left, in-right, in-map, in-flat, each-in, each-is, none-in, IsIn, found-in}
 
 -- objects that are proper, each at some nesting
 abbrev pub AreProper : Design → Type 0

@@ -28,9 +28,9 @@ use Rattle.law_designs.proofs.WellFormed.{threads-at-most}
 use Rattle.law_designs.proofs.Shared.ProgramRanges.{AreRanked}
 use Rattle.law_designs.specs.Rankings.{IsRanking, stated_by}
 use Rattle.law_designs.proofs.Shared.PriorityPlaces.{deadline-ranking}
-use Rattle.law_calls.proofs.Shared.Facts.{same-self}
-use Rattle.law_designs.proofs.Shared.Greatest.{at-least, at-most, fold-most}
-use Rattle.law_calls.proofs.Shared.Lists.{in-map, filter-in, in-filter, IsIn, place-of}
+use Rattle.law_lists.proofs.Shared.Facts.{same-self}
+use Rattle.law_lists.proofs.Shared.Greatest.{at-least, at-most, fold-most}
+use Rattle.law_lists.proofs.Shared.Lists.{in-map, filter-in, in-filter, IsIn, place-of}
 
 ranked-range : (f : Flat) (ps : List ℕ) → IsRanking f ps → (p : ℕ) → IsIn p ps → (1 ≤ p) × (p ≤ length f.threads)
 ranked-range f ps ranking p h = let k = place-of p ps h in ranking.range k.0 p k.1

@@ -40,9 +40,9 @@ use Rattle.guarantee.specs.Software.{Software, task_of, program_software}
 use Rattle.guarantee.proofs.Shared.Same.{program_for-software}
 use Rattle.law_designs.proofs.Shared.PriorityPlaces.{ranking-found, entry-at}
 use Rattle.std.proofs.lemmas.Bool.{and_parts, leb-true, both_ways}
-use Rattle.law_calls.proofs.Shared.Facts.{same-self}
-use Rattle.law_calls.proofs.Shared.Lists.{each-to, each-by, at-in, each-map}
-use Rattle.law_calls.proofs.Shared.Places.{zip-at, mapped-at, map-at}
+use Rattle.law_lists.proofs.Shared.Facts.{same-self}
+use Rattle.law_lists.proofs.Shared.Lists.{each-to, each-by, at-in, each-map}
+use Rattle.law_lists.proofs.Shared.Places.{zip-at, mapped-at, map-at}
 use Rattle.std.proofs.lemmas.List.{length-map}
 use Rattle.law_designs.proofs.Shared.Lists.{all-in, has-at}
 use Rattle.law_designs.specs.Rankings.{IsRanking, responses_by}

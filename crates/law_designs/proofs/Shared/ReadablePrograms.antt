@@ -34,7 +34,7 @@ use Rattle.law_designs.proofs.Shared.ProgramRanges.{AreRanked, ranges-right, cos
 use Rattle.law_designs.proofs.Shared.RankRanges.{ranked-stated}
 use Rattle.law_designs.proofs.Shared.PriorityPlaces.{deadline-ranking}
 use Rattle.law_designs.specs.Rankings.{IsRanking, stated_by, program_by}
-use Rattle.law_calls.proofs.Shared.Lists.{at-in, IsIn}
+use Rattle.law_lists.proofs.Shared.Lists.{at-in, IsIn}
 use Rattle.std.proofs.lemmas.Slice.Zip.{length-zip}
 
 zip-most : {A B : Type 0} (xs : List A) (ys : List B) → length (zip xs ys) ≤ length xs

@@ -19,8 +19,8 @@ use Rattle.design_rules.specs.Clashes.{has_block}
 use Rattle.design_rules.specs.Fittings.{same_mode, same_params, constraint_place, agrees, child_operation, is_link, link_count, misfits}
 use Rattle.design_rules.specs.Fittings.{misfits_parent}
 use Rattle.law_designs.proofs.Renaming.{three}
-use Rattle.law_calls.proofs.Shared.Facts.{same-is, same-self}
-use Rattle.law_calls.proofs.Shared.Lists.{in-left, in-right, none-in, IsIn, found-in}
+use Rattle.law_lists.proofs.Shared.Facts.{same-is, same-self}
+use Rattle.law_lists.proofs.Shared.Lists.{in-left, in-right, none-in, IsIn, found-in}
 
 -- where the standings of a tree stand
 abbrev pub Within : List Standing → List Standing → Type 0

@@ -32,8 +32,8 @@ use Rattle.law_designs.proofs.Shared.Flattened.{library_by, guarded_by, library-
 use Rattle.law_designs.proofs.Shared.Flattened.{operation-of, request_services, services_at, service-from}
 use Rattle.law_designs.proofs.Shared.ObjectNames.{terminal-names, op-names}
 use Rattle.law_designs.proofs.Shared.Resolving.{Fit, Ends, resolve-ends, one-found}
-use Rattle.law_calls.proofs.Shared.Facts.{same-is, is-same}
-use Rattle.law_calls.proofs.Shared.Lists.{in-left, in-right, in-map, in-flat, filter-in, none-in, IsIn, found-in}
+use Rattle.law_lists.proofs.Shared.Facts.{same-is, is-same}
+use Rattle.law_lists.proofs.Shared.Lists.{in-left, in-right, in-map, in-flat, filter-in, none-in, IsIn, found-in}
 
 -- what a terminal object whose parts fit has
 abbrev misfit-bodies : Object → Bool

@@ -41,9 +41,9 @@ use Rattle.law_designs.proofs.Shared.ObjectNames.{terminal-names}
 use Rattle.law_designs.proofs.Shared.Served.{fitted, body-of, block-of, no-provided, table-right, may-provide}
 use Rattle.law_designs.proofs.Shared.Blocks.{AreNeeded, needed-call, body-needed, thread-needed, kept}
 use Rattle.law_designs.proofs.Shared.Starting.{block-counted, MeantName, Inside, Silent, inside, needed-meant, can-same}
-use Rattle.law_calls.proofs.Shared.Facts.{same-is, is-same}
-use Rattle.law_designs.proofs.Shared.Greatest.{at-most}
-use Rattle.law_calls.proofs.Shared.Lists.{in-map, filter-in, in-filter, any-in, IsIn, found-in}
+use Rattle.law_lists.proofs.Shared.Facts.{same-is, is-same}
+use Rattle.law_lists.proofs.Shared.Greatest.{at-most}
+use Rattle.law_lists.proofs.Shared.Lists.{in-map, filter-in, in-filter, any-in, IsIn, found-in}
 
 max-zero : (n : ℕ) → max 0 n ≡ n
 max-zero n = omega arith

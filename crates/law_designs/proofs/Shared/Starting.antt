@@ -33,8 +33,8 @@ use Rattle.law_designs.proofs.Shared.ObjectRules.{no-clash}
 use Rattle.law_designs.proofs.Shared.ObjectNames.{distinct-filter, terminal-names}
 use Rattle.law_designs.proofs.Shared.Served.{Meant, meant, Fitted, fitted}
 use Rattle.law_designs.proofs.Shared.Blocks.{Needed, AreNeeded, needed-call, body-needed, kept}
-use Rattle.law_calls.proofs.Shared.Facts.{same-is, is-same}
-use Rattle.law_calls.proofs.Shared.Lists.{in-left, in-right, in-map, filter-in, in-filter, any-in, none-in, IsIn, found-in, flat-same}
+use Rattle.law_lists.proofs.Shared.Facts.{same-is, is-same}
+use Rattle.law_lists.proofs.Shared.Lists.{in-left, in-right, in-map, filter-in, in-filter, any-in, none-in, IsIn, found-in, flat-same}
 
 -- lists with one thing
 pub one-only : {A : Type 0} (xs : List A) (a : A) → length xs ≡ 1 → IsIn a xs → xs ≡ a ∷ []

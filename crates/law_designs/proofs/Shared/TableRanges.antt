@@ -21,9 +21,9 @@ use Rattle.law_designs.specs.Rankings.{IsRanking}
 use Rattle.law_designs.proofs.Shared.Lists.{has-at}
 use Rattle.law_designs.proofs.Shared.PriorityPlaces.{deadline-ranking, entry-at}
 use Rattle.law_designs.proofs.Shared.RankedPrograms.{all-entries}
-use Rattle.law_designs.proofs.Shared.CostRanges.{all-each, within-true, finish-some, blocking-cheap}
+use Rattle.analysis.proofs.Shared.CostRanges.{all-each, within-true, finish-some, blocking-cheap}
 use Rattle.std.proofs.lemmas.Bool.{and_parts, leb-true}
-use Rattle.law_calls.proofs.Shared.Places.{all-at}
+use Rattle.law_lists.proofs.Shared.Places.{all-at}
 use Rattle.std.proofs.lemmas.List.{length-map}
 
 pub count-down : (n : ℕ) → length (downwards n) ≡ n

@@ -18,7 +18,7 @@ use Rattle.law_designs.proofs.Shared.PriorityPlaces.{deadline-ranking}
 use Rattle.law_designs.proofs.Shared.ProgramTasks.{ranked-listing, zipped-at}
 use Rattle.law_designs.proofs.Shared.RankedPrograms.{twice-threads, task-stands, flat-tabled, responses-are}
 use Rattle.law_designs.proofs.Shared.TableRanges.{ranked-table}
-use Rattle.law_calls.proofs.Shared.Lists.{each-by, each-map}
+use Rattle.law_lists.proofs.Shared.Lists.{each-by, each-map}
 
 module _ (f : Flat) (first : ℕ) (ps : List ℕ) (ranking : IsRanking f ps) where
   -- a task is in the list by priority

@@ -27,7 +27,7 @@ use Rattle.law_designs.proofs.Shared.Flattened.{OfSporadic, timing-of}
 use Rattle.law_designs.proofs.Shared.Served.{fitted}
 use Rattle.law_designs.proofs.Shared.Blocks.{kept}
 use Rattle.law_designs.proofs.Shared.Offers.{Fitting, body-faultless, thread-faultless}
-use Rattle.law_calls.proofs.Shared.Lists.{IsIn}
+use Rattle.law_lists.proofs.Shared.Lists.{IsIn}
 
 -- the ranks of a design by a ranking have a number for each entry
 pub ranked-fit : (x : Design) (ps : List ℕ) → IsRanking (flat x) ps → Fitting (flat x) (stated_by x ps)

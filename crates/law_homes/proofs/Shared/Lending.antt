@@ -27,7 +27,7 @@ use Rattle.law_ceilings.proofs.Shared.Keeping.{AreWritten, tick}
 use Rattle.law_ceilings.proofs.Shared.Passing.{Face, face, faces, faces-same, faces-change, going-face, released-face, into, out_of, exit-faces}
 use Rattle.law_ceilings.proofs.Shared.Passing.{go-faces}
 use Rattle.law_ceilings.proofs.Shared.Excluding.{face-at, at-face}
-use Rattle.law_calls.proofs.Shared.Places.{change-at, change-else, set-else, each-changed, mapped-at}
+use Rattle.law_lists.proofs.Shared.Places.{change-at, change-else, set-else, each-changed, mapped-at}
 use Rattle.law_homes.specs.Homes.{AreAsWritten, IsHome}
 use Rattle.law_homes.proofs.Shared.Ending.{AreEnds, HandsBack, block-ends, done-back, done-ends, written-names}
 

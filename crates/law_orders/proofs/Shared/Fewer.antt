@@ -12,8 +12,8 @@ use Rattle.analysis.specs.Sections.{Section, sections}
 use Rattle.analysis.specs.Blocking.{blocking}
 use Rattle.analysis.specs.Sound.{IsSound}
 use Rattle.analysis.specs.Tables.{activation_cost}
-use Rattle.law_calls.proofs.Shared.Lists.{IsIn}
-use Rattle.law_designs.proofs.Shared.CostRanges.{finish-some}
+use Rattle.law_lists.proofs.Shared.Lists.{IsIn}
+use Rattle.analysis.proofs.Shared.CostRanges.{finish-some}
 use Rattle.law_orders.specs.Orders.{has_place, level_among, levels_among, others, share, EndsLast}
 use Rattle.law_orders.specs.Laws.{FewerAboveIsNoWorse}
 use Rattle.law_orders.proofs.SectionCosts.{section-cost}

@@ -9,9 +9,9 @@ use Rattle.ods_tree.specs.Services.{flat_services}
 use Rattle.analysis.specs.Ceilings.{uses_object, greatest_user, calls_from_inside, ceiling_within, ceiling}
 use Rattle.analysis.specs.Sections.{Section, sections}
 use Rattle.analysis.specs.Blocking.{lower_sections, blocking}
-use Rattle.law_calls.proofs.Shared.Lists.{IsIn, in-map, in-flat, in-filter, filter-in, in-some}
+use Rattle.law_lists.proofs.Shared.Lists.{IsIn, in-map, in-flat, in-filter, filter-in, in-some}
 use Rattle.law_designs.proofs.Shared.Lists.{from-map}
-use Rattle.law_designs.proofs.Shared.Greatest.{at-least, at-most, fold-most}
+use Rattle.law_lists.proofs.Shared.Greatest.{at-least, at-most, fold-most}
 use Rattle.law_orders.specs.Orders.{places_of}
 use Rattle.law_orders.proofs.LevelPlaces.{zip-in, in-zip}
 

@@ -3,7 +3,7 @@ use Rattle.std.specs.Prelude.{◌≡◌, ◌⊎◌, ℕ, zero, suc, ◌≤◌, �
 use Rattle.std.proofs.Common.{sym, ◌∙◌, ap, arith, inl, inr}
 use Rattle.std.proofs.lemmas.Option.{none-some, same_Some}
 use Rattle.std.proofs.lemmas.Bool.{both_ways}
-use Rattle.law_calls.proofs.Shared.Places.{all-at}
+use Rattle.law_lists.proofs.Shared.Places.{all-at}
 use Rattle.law_orders.specs.Orders.{has_place}
 use Rattle.law_orders.specs.Laws.{ObstaclesRefuse}
 use Rattle.law_orders.proofs.Shared.OrderPlaces.{place-stands, order-has, not-below}

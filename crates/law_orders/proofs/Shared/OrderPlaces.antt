@@ -9,7 +9,7 @@ use Rattle.std.proofs.lemmas.List.FromFn.{length-range_with_len}
 use Rattle.std.proofs.lemmas.List.Sorted.{length_permutation, sum_by-IsPermutation, list_any-IsPermutation}
 use Rattle.std.proofs.lemmas.List.Sums.{sum_by-cons}
 use Rattle.std.proofs.lemmas.Option.{none-some, same_Some}
-use Rattle.law_calls.proofs.Shared.Lists.{any-at, any-in, at-in}
+use Rattle.law_lists.proofs.Shared.Lists.{any-at, any-in, at-in}
 use Rattle.law_orders.specs.Orders.{has_place, priority_in}
 
 -- a place that is among some stands at one of them

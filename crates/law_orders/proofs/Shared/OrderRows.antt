@@ -9,7 +9,7 @@ use Rattle.std.proofs.lemmas.Option.{none-some, same_Some, slice_get_within}
 use Rattle.ods_tree.specs.Flats.{Thread, Flat}
 use Rattle.rt_response.specs.declared.rows.ThreadRow.{ThreadRow}
 use Rattle.analysis.specs.Tables.{downwards, places_by_priority, row_of, row_at}
-use Rattle.law_calls.proofs.Shared.Places.{map-at}
+use Rattle.law_lists.proofs.Shared.Places.{map-at}
 use Rattle.law_designs.proofs.Shared.PriorityLists.{position-is}
 use Rattle.law_designs.proofs.Shared.Lists.{has-at}
 use Rattle.law_orders.specs.Orders.{IsOrder, priority_in, priorities_by, rows_by}

@@ -16,7 +16,7 @@ use Rattle.rt_response.proofs.Shared.Places.{right_sides-at, right_sides-long}
 use Rattle.law_schedules.proofs.Shared.Equations.{all_zip-at, meets-response, fits-limits}
 use Rattle.analysis.specs.Sound.{IsSound}
 use Rattle.analysis.specs.Tables.{activation_cost, jitter_of, starter_of, row_of}
-use Rattle.law_calls.proofs.Shared.Lists.{none-in, at-in}
+use Rattle.law_lists.proofs.Shared.Lists.{none-in, at-in}
 use Rattle.law_designs.proofs.Shared.Lists.{has-at}
 use Rattle.law_orders.specs.Orders.{is_internal, AllExternal, IsOrder, Passes, priority_in, priorities_by, rows_by, share, EndsLast, CanBeLast}
 use Rattle.law_orders.specs.Laws.{OrdersPassByLasts, PassingOrdersHaveLasts}

@@ -14,8 +14,8 @@ use Rattle.ods_tree.specs.Flats as timing
 use Rattle.ods_tree.specs.Sound.{is_below, is_timed, is_in_range}
 use Rattle.analysis.specs.Sound.{IsSound}
 use Rattle.analysis.specs.Tables.{activation_cost, jitter_of}
-use Rattle.law_calls.proofs.Shared.Places.{all-at}
-use Rattle.law_designs.proofs.Shared.CostRanges.{all-each, within-true}
+use Rattle.law_lists.proofs.Shared.Places.{all-at}
+use Rattle.analysis.proofs.Shared.CostRanges.{all-each, within-true}
 use Rattle.law_orders.specs.Orders.{has_place, others, share}
 
 -- a sum over those whose place passes a test is one over all places

@@ -18,7 +18,7 @@ use Rattle.ada_print.specs.Writable.{is_word}
 use Rattle.design_rules.specs.Rules.{MeetsRules}
 use Rattle.analysis.specs.Ceilings.{Ranks}
 use Rattle.guarantee.specs.Programs.{thread_form, program, stated_ranks}
-use Rattle.law_calls.proofs.Shared.Lists.{IsIn}
+use Rattle.law_lists.proofs.Shared.Lists.{IsIn}
 use Rattle.law_designs.proofs.Shared.Flattened.{library-from, guarded-from, operation-from, ThreadFrom, thread-from, terminal-object, TimingOf}
 use Rattle.law_designs.proofs.Shared.Flattened.{OfCyclic, OfSporadic, timing-of}
 use Rattle.law_designs.proofs.Shared.Units.{UnitFrom, OfLibrary, OfGuarded, OfThread, unit-from, from-zip}

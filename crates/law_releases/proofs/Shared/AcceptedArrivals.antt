@@ -17,7 +17,7 @@ use Rattle.guarantee.specs.Arrivals as arrivals
 use Rattle.law_written.proofs.Shared.Moves.{HasUnit}
 use Rattle.law_written.proofs.Shared.Units.{ths_of}
 use Rattle.std.proofs.lemmas.Bool.{true≢false}
-use Rattle.law_calls.proofs.Shared.Facts.{or_else-none, no-fault}
+use Rattle.law_lists.proofs.Shared.Facts.{or_else-none, no-fault}
 
 -- a request from outside, by its task's name
 abbrev pub named_item : Program → Arrival → arrivals.Arrival

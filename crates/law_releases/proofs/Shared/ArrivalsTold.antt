@@ -31,7 +31,7 @@ use Rattle.law_written.proofs.Shared.Moves.{threads_of, HasUnit, IsNow, is_stopp
 use Rattle.law_written.proofs.Shared.Walks.{IsTimely, Ends, Walks, step-walks}
 use Rattle.law_written.proofs.Shared.InOrder.{quiet_front, quiet_back, quiet_names, first_threads}
 use Rattle.std.proofs.lemmas.Bool.{true≢false, eq-eqb}
-use Rattle.law_calls.proofs.Shared.Facts.{first-none}
+use Rattle.law_lists.proofs.Shared.Facts.{first-none}
 use Rattle.law_releases.proofs.Shared.AcceptedArrivals.{named_item, Later, later_mono, items_later, items_units, no_item_fault}
 
 -- the arrivals that are told

@@ -40,7 +40,7 @@ use Rattle.law_written.proofs.Shared.Excluded.{run_kept}
 use Rattle.law_ceilings.proofs.Shared.Programs.{may-exclude}
 use Rattle.law_releases.proofs.Shared.Carrying.{IsCarried}
 use Rattle.law_releases.proofs.CarriedSteps.{KeepsAway, claimed_from}
-use Rattle.law_calls.proofs.Shared.Lists.{each-drop}
+use Rattle.law_lists.proofs.Shared.Lists.{each-drop}
 use Rattle.law_calls.proofs.Shared.Accepted.{elsewhere, IsInside}
 
 -- the barrier of a request, and its end

@@ -29,7 +29,7 @@ use Rattle.law_releases.proofs.Shared.ArrivalsTold.{are_told}
 use Rattle.law_releases.proofs.Requesters.{IsSaid, all_said}
 use Rattle.std.proofs.lemmas.Bool.{true≢false, false_from_ne_true}
 use Rattle.std.proofs.lemmas.Option.{same_Some}
-use Rattle.law_calls.proofs.Shared.Lists.{each-to}
+use Rattle.law_lists.proofs.Shared.Lists.{each-to}
 use Rattle.law_releases.specs.Serving.{asked}
 use Rattle.law_releases.proofs.RequestNotices.{unit-at}
 use Rattle.law_calls.proofs.Shared.Accepted.{IsInside, requested-inside}

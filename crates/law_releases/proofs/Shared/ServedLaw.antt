@@ -43,7 +43,7 @@ use Rattle.law_releases.specs.Serving.{ServedWhile, IsServedWhile, HasNoOverrun}
 use Rattle.law_releases.specs.Laws.{RequestsAreServed, AllRequestsAreServed}
 use Rattle.law_releases.proofs.Shared.Tasks.{each_task}
 use Rattle.law_releases.proofs.AllServed.{served_all}
-use Rattle.law_calls.proofs.Shared.Lists.{each-to}
+use Rattle.law_lists.proofs.Shared.Lists.{each-to}
 use Rattle.guarantee.specs.Allowed.{IsRequested}
 use Rattle.law_written.proofs.Shared.Back.{places}
 use Rattle.law_ceilings.proofs.Shared.Turning.{among-there}

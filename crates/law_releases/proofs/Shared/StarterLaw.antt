@@ -40,16 +40,16 @@ use Rattle.law_releases.proofs.StarterSteps.{MayAsk, once_opening}
 use Rattle.law_calls.proofs.Shared.Resolved.{asked_by}
 use Rattle.std.proofs.lemmas.Option.{same_Some}
 use Rattle.std.proofs.lemmas.Bool.{true≢false, false_from_ne_true, eq-eqb, eqb-true}
-use Rattle.law_calls.proofs.Shared.Facts.{is-same}
+use Rattle.law_lists.proofs.Shared.Facts.{is-same}
 use Rattle.law_releases.specs.Starting.{AsksOnce}
 use Rattle.law_releases.specs.Laws.{StartersAskOnce}
 use Rattle.law_releases.proofs.Shared.Tasks.{thread_of, task_of, IsInternal, internal}
 use Rattle.law_releases.proofs.NoArrivals.{all_elsewhere}
-use Rattle.law_calls.proofs.Shared.Places.{all-at}
+use Rattle.law_lists.proofs.Shared.Places.{all-at}
 use Rattle.ods_tree.specs.Flats.{Sporadic}
 use Rattle.law_ceilings.proofs.Shared.Turning.{among-there}
 use Rattle.law_calls.proofs.Shared.Accepted.{IsInside}
-use Rattle.law_calls.proofs.Shared.Weights.{counting}
+use Rattle.law_lists.proofs.Shared.Weights.{counting}
 use Rattle.law_calls.proofs.Shared.Threads.{threads_apart}
 use Rattle.law_written.proofs.Shared.Namings.{naming}
 

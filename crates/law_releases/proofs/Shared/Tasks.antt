@@ -11,8 +11,8 @@ use Rattle.machine.specs.Systems.{TaskUnit, ReleasePattern, Periodic, Requested,
 use Rattle.guarantee.specs.Software.{Task, program_software}
 use Rattle.law_written.proofs.Shared.Claims.{task_at, timing_at}
 use Rattle.law_written.proofs.Shared.Units.{tasks_of}
-use Rattle.law_calls.proofs.Shared.Lists.{each-by, each-map}
-use Rattle.law_calls.proofs.Shared.Places.{mapped-at}
+use Rattle.law_lists.proofs.Shared.Lists.{each-by, each-map}
+use Rattle.law_lists.proofs.Shared.Places.{mapped-at}
 
 module _ (p : Program) (r : Arrivals) where
   -- what holds of each thread's task holds of each task

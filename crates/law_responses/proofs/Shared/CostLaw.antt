@@ -13,7 +13,7 @@ use Rattle.trace_tree.specs.declared.event.Event as machine
 use Rattle.rt_response.specs.declared.rows.ThreadRow.{ThreadRow}
 use Rattle.guarantee.specs.Events.{named}
 use Rattle.guarantee.specs.ResponseLaw.{Ranked, AreTabled}
-use Rattle.law_calls.proofs.Shared.Lists.{each-to}
+use Rattle.law_lists.proofs.Shared.Lists.{each-to}
 use Rattle.law_responses.specs.Using.{UsesAtMost, TasksKeepToCosts}
 use Rattle.law_responses.proofs.Frames.{Frame}
 use Rattle.law_responses.proofs.History.{History}

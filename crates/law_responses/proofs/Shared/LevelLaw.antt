@@ -14,7 +14,7 @@ use Rattle.rt_response.specs.Response.{Fits}
 use Rattle.guarantee.specs.Events.{named}
 use Rattle.guarantee.specs.Bounded.{Response}
 use Rattle.guarantee.specs.ResponseLaw.{Ranked, AreTabled, IsStarted, times_of}
-use Rattle.law_calls.proofs.Shared.Lists.{zip-first}
+use Rattle.law_lists.proofs.Shared.Lists.{zip-first}
 use Rattle.law_responses.specs.Resting.{RestsBy, LevelsOfTasksRest}
 use Rattle.law_responses.proofs.Resting.{rests-named}
 use Rattle.law_responses.proofs.SystemLaw.{AllRest, system-rests, Leaves, run-leaves}

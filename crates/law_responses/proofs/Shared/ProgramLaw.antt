@@ -53,9 +53,9 @@ use Rattle.law_responses.proofs.TwinTasks.{twin-of, thread-of, units-apart}
 use Rattle.law_responses.proofs.Tabling.{frame, falls-at, row-is, has-row, no-row-out, rows-differ, place-of}
 use Rattle.law_responses.proofs.TabledTasks.{task-tabled, starters-tabled}
 use Rattle.law_responses.proofs.Requesting.{requests-deep, requests-few}
-use Rattle.law_calls.proofs.Shared.Facts.{or_else-none, not-fault, same-self, same-is}
-use Rattle.law_calls.proofs.Shared.Places.{same-item, all-at}
-use Rattle.law_calls.proofs.Shared.Lists.{zip-first, zip-second}
+use Rattle.law_lists.proofs.Shared.Facts.{or_else-none, not-fault, same-self, same-is}
+use Rattle.law_lists.proofs.Shared.Places.{same-item, all-at}
+use Rattle.law_lists.proofs.Shared.Lists.{zip-first, zip-second}
 use Rattle.law_calls.proofs.Shared.UnitRules.{op-body-in, task-body, numbers-kept}
 use Rattle.law_calls.proofs.Shared.Costs.{PaysCall, pays-call}
 

@@ -24,8 +24,8 @@ use Rattle.law_releases.proofs.Shared.StarterLaw.{starters_ask_once}
 use Rattle.law_runs.proofs.KeptSoftware.{kept_software}
 use Rattle.law_runs.specs.Laws.{TabledTasksAreServed}
 use Rattle.law_runs.proofs.Joined.{ranked_tasks, Starts, tabled_runs, served_tasks, ranked_at}
-use Rattle.law_calls.proofs.Shared.Places.{all-at}
-use Rattle.law_calls.proofs.Shared.Lists.{each-map}
+use Rattle.law_lists.proofs.Shared.Places.{all-at}
+use Rattle.law_lists.proofs.Shared.Lists.{each-map}
 
 -- requests inside a program are asked once
 pub program_starts : (limit : ℕ) (p : Program) (ts : List Ranked) (rows : List ThreadRow) (r : places.Arrivals) (trace : List machine.Event)

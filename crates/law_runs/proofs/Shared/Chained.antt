@@ -32,8 +32,8 @@ use Rattle.guarantee.specs.Requests.{notices}
 use Rattle.guarantee.specs.MachineLaw.{IsReadable}
 use Rattle.guarantee.specs.ResponseLaw.{Ranked, ranked, AreTabled, times_of}
 use Rattle.guarantee.proofs.Shared.Same.{program-software}
-use Rattle.law_calls.proofs.Shared.Places.{all-at, map-at}
-use Rattle.law_calls.proofs.Shared.Lists.{each-to, each-map, each-by}
+use Rattle.law_lists.proofs.Shared.Places.{all-at, map-at}
+use Rattle.law_lists.proofs.Shared.Lists.{each-to, each-map, each-by}
 use Rattle.law_chains.specs.AtOnce.{AreServedAtOnce, IsServedAtOnce}
 use Rattle.law_chains.specs.Chains.{ChainResponds, total}
 use Rattle.law_chains.proofs.Shared.ChainSteps.{chains-respond}

@@ -34,7 +34,7 @@ use Rattle.std.proofs.lemmas.Bool.{true≢false}
 use Rattle.ada_tree.specs.Proper.{IsProperForm, IsProperProgram}
 use Rattle.seq_tree.specs.Proper.{within_limits}
 use Rattle.guarantee.specs.MachineLaw.{IsReadable}
-use Rattle.law_calls.proofs.Shared.Places.{all-at}
+use Rattle.law_lists.proofs.Shared.Places.{all-at}
 use Rattle.law_calls.proofs.Shared.Threads.{thread_name, one-place, IsMadeOf, made-of}
 use Rattle.law_calls.proofs.Shared.Apart.{units_apart}
 use Rattle.law_calls.proofs.Shared.Nominals.{nominal-behind, earlier-behind}

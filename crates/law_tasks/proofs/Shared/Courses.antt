@@ -10,7 +10,7 @@ use Rattle.seq_tree.specs.Runs as runs
 use Rattle.seq_tree.specs.declared.tree.Costs.{Costs}
 use Rattle.seq_tree.specs.declared.tree.OpName.{OpName}
 use Rattle.machine.specs.Systems.{System, ProtectedUnit, CallTarget, Plain, Protected, Request, Unknown, callee}
-use Rattle.law_calls.proofs.Shared.Depths.{IsDeep}
+use Rattle.law_lists.proofs.Shared.Depths.{IsDeep}
 use Rattle.law_calls.proofs.Shared.Passives.{passive_calls}
 use Rattle.machine.specs.Pieces.{Piece, Leaving, Calling, Working, Testing, Turning, Turned, ticks_of}
 use Rattle.law_calls.proofs.Shared.Pieces.{in_loop}

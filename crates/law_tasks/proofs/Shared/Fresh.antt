@@ -14,7 +14,7 @@ use Rattle.machine.specs.States.{State, Task, Resource, Object, Control}
 use Rattle.machine.specs.Releases.{going, released, release, release_task, serve, serve_task, is_waiting}
 use Rattle.machine.specs.Effects.{acted, entry, entered_at, stopped_at, exit, go, ended, ceiling_of}
 use Rattle.std.proofs.lemmas.Bool.{true≢false}
-use Rattle.law_calls.proofs.Shared.Places.{changed-at, change-any}
+use Rattle.law_lists.proofs.Shared.Places.{changed-at, change-any}
 use Rattle.law_calls.proofs.Shared.Tasks.{released-readiness}
 
 -- costs of a tick at least

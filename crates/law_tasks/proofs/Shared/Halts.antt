@@ -26,7 +26,7 @@ use Rattle.law_tasks.proofs.Shared.ProgramFacts.{costs_some}
 use Rattle.law_tasks.proofs.Shared.Fresh.{AreSome, is_slow, quick, HasLeft, IsFresh, FreshAt, released-ready, acted-fresh}
 use Rattle.std.proofs.lemmas.Option.{none-some, same_Some}
 use Rattle.std.proofs.lemmas.Bool.{true≢false}
-use Rattle.law_calls.proofs.Shared.Places.{change-at, changed-at, change-any}
+use Rattle.law_lists.proofs.Shared.Places.{change-at, changed-at, change-any}
 use Rattle.law_calls.proofs.Shared.Tasks.{going-pieces, going-readiness, released-readiness, outside-readiness}
 use Rattle.law_calls.proofs.Shared.Instants.{IsSame, release_task-same, serve-same, acted-same}
 

@@ -25,15 +25,15 @@ use Rattle.analysis.specs.Sound.{IsSound}
 use Rattle.guarantee.specs.Programs.{thread_form, program_for}
 use Rattle.design_rules.specs.Rules.{AreMet}
 use Rattle.law_designs.proofs.Shared.Lists.{all-in}
-use Rattle.law_designs.proofs.Shared.CostRanges.{within-true}
+use Rattle.analysis.proofs.Shared.CostRanges.{within-true}
 use Rattle.law_designs.proofs.Shared.Flattened.{library-from, guarded-from, operation-from, ThreadFrom, thread-from, terminal-object, TimingOf}
 use Rattle.law_designs.proofs.Shared.Flattened.{OfCyclic, OfSporadic, timing-of}
 use Rattle.law_designs.proofs.Shared.Served.{Meant, meant}
 use Rattle.law_designs.proofs.Shared.Blocks.{Needed, AreNeeded, needed-call, body-needed, thread-needed, kept}
 use Rattle.law_designs.proofs.Shared.ProgramRanges.{AreRanked}
 use Rattle.law_designs.proofs.Shared.Units.{UnitFrom, OfLibrary, OfGuarded, OfThread, unit-from, from-zip}
-use Rattle.law_calls.proofs.Shared.Facts.{same-is}
-use Rattle.law_calls.proofs.Shared.Lists.{IsIn, found-in}
+use Rattle.law_lists.proofs.Shared.Facts.{same-is}
+use Rattle.law_lists.proofs.Shared.Lists.{IsIn, found-in}
 use Rattle.law_texts.proofs.Tokens.{HasLegible}
 use Rattle.law_texts.proofs.LegibleBlocks.{legible-block}
 use Rattle.law_texts.proofs.Shared.LegibleObjects.{IsLegibleObject}

@@ -16,7 +16,7 @@ use Rattle.ods_tree.specs.Spelling.{datum_line, block_parts, body_lines, thread_
 use Rattle.ods_tree.specs.Spelling.{head_lines, cost_lines, design_lines, design_tokens, attribute_line, needed_line}
 use Rattle.seq_print.specs.Readable.{is_readable}
 use Rattle.ada_print.specs.Writable.{is_word, is_number}
-use Rattle.law_calls.proofs.Shared.Lists.{IsIn, in-left, in-right, in-map, in-flat, in-some}
+use Rattle.law_lists.proofs.Shared.Lists.{IsIn, in-left, in-right, in-map, in-flat, in-some}
 use Rattle.law_designs.proofs.Shared.Lists.{in-cases, all-from, all-in}
 use Rattle.law_texts.proofs.Tokens.{AreLegible}
 

@@ -4,7 +4,7 @@ use Rattle.ods_tree.specs.Designs.{Object, Tree, Trees, Node, Empty, With, Desig
 use Rattle.ods_tree.specs.Walk.{Standing, own_of, roots, standings, inner_standings, objects}
 use Rattle.ods_tree.specs.Ticks.{object_in_ticks, tree_in_ticks, trees_in_ticks, tick_time, ticked, in_ticks}
 use Rattle.ods_tree.specs.declared.design.VersionTwo.{VersionTwo}
-use Rattle.law_calls.proofs.Shared.Lists.{IsIn, in-left, in-right}
+use Rattle.law_lists.proofs.Shared.Lists.{IsIn, in-left, in-right}
 use Rattle.law_designs.proofs.Shared.Lists.{in-cases}
 use Rattle.law_texts.proofs.Shared.LegibleObjects.{IsLegibleObject}
 

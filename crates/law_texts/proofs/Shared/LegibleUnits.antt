@@ -20,7 +20,7 @@ use Rattle.ada_tree.specs.Spelling.{renaming_line, constant_line, end_line, trut
 use Rattle.ada_tree.specs.Spelling.{kept_token, request_token, loop_lines, inner_body, specification_lines, unit_body_lines, hrt_lines}
 use Rattle.ada_print.specs.Parts as whole
 use Rattle.ada_print.specs.Writable.{is_word, is_number, is_writable}
-use Rattle.law_calls.proofs.Shared.Lists.{IsIn}
+use Rattle.law_lists.proofs.Shared.Lists.{IsIn}
 use Rattle.law_texts.proofs.Tokens.{AreLegible, HasLegible, both, lines-both, line-first, lines-map, lines-flat}
 
 -- names of parameters, data, an operation and what a unit is, where a text can hold them

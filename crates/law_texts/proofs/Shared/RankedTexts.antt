@@ -30,7 +30,7 @@ use Rattle.guarantee.specs.MachineLaw.{IsReadable}
 use Rattle.design_rules.specs.Rules.{MeetsRules}
 use Rattle.law_designs.specs.Rankings.{IsRanking, stated_by, program_by}
 use Rattle.law_designs.proofs.Shared.Lists.{all-from, all-in}
-use Rattle.law_designs.proofs.Shared.CostRanges.{within-true}
+use Rattle.analysis.proofs.Shared.CostRanges.{within-true}
 use Rattle.law_designs.proofs.Shared.Offers.{Fitting}
 use Rattle.law_designs.proofs.Shared.ProgramRanges.{AreRanked}
 use Rattle.law_designs.proofs.Shared.RankRanges.{ranked-stated}
@@ -38,7 +38,7 @@ use Rattle.law_designs.proofs.Shared.ReadablePrograms.{ranked-readable}
 use Rattle.law_designs.proofs.Shared.SoundDesigns.{flat-sound}
 use Rattle.law_designs.proofs.Shared.TableRanges.{ranked-table}
 use Rattle.law_designs.proofs.Shared.Units.{ranked-fit, from-zip}
-use Rattle.law_calls.proofs.Shared.Lists.{IsIn}
+use Rattle.law_lists.proofs.Shared.Lists.{IsIn}
 use Rattle.law_runs.specs.Ranked.{GuaranteedBy}
 use Rattle.law_runs.proofs.Shared.RankedRuns.{ranked-texts-are-guaranteed}
 use Rattle.ada_gen.specs.Heads.{is_thread_writable, is_bound_writable, is_head_writable}

@@ -31,8 +31,8 @@ use Rattle.guarantee.specs.Programs.{program, stated_ranks}
 use Rattle.machine.specs.Meanings.{Meaning}
 use Rattle.machine.specs.Systems.{system}
 use Rattle.seq_tree.specs.Faults.{or_else, fault_if}
-use Rattle.law_calls.proofs.Shared.Facts.{or_else-none, no-fault}
-use Rattle.law_calls.proofs.Shared.Lists.{IsIn, in-left, in-right, in-flat}
+use Rattle.law_lists.proofs.Shared.Facts.{or_else-none, no-fault}
+use Rattle.law_lists.proofs.Shared.Lists.{IsIn, in-left, in-right, in-flat}
 use Rattle.law_ceilings.proofs.Shared.Ceiled.{is-ceiled}
 use Rattle.law_ceilings.proofs.Shared.Stopping.{rest-goes-on}
 use Rattle.law_ceilings.specs.Ceilings.{GoesOn}

@@ -21,7 +21,7 @@ use Rattle.guarantee.specs.Order.{is_task_name}
 use Rattle.guarantee.specs.Events.{op_at}
 use Rattle.law_calls.proofs.Shared.UnitNames.{AreApart}
 use Rattle.law_calls.proofs.Shared.Apart.{units_apart}
-use Rattle.law_calls.proofs.Shared.Facts.{is-same}
+use Rattle.law_lists.proofs.Shared.Facts.{is-same}
 use Rattle.law_traces.specs.Checks.{object_named, op_named}
 use Rattle.law_traces.proofs.Shared.Finding.{same-turned}
 use Rattle.law_trace_places.specs.Places.{task_in, guarded_in, guarded_at}

@@ -19,8 +19,8 @@ use Rattle.guarantee.specs.Passages.{Passage, passages, AreOneByOne}
 use Rattle.law_written.proofs.Shared.Moves.{threads_of}
 use Rattle.law_written.proofs.Shared.Claims.{Naming, did, step_at, Stands, Threads, Holds, HeldUntil, Serves, Conducts, guarded_at}
 use Rattle.std.proofs.lemmas.Bool.{false_from_ne_true, eqb-true, eqb-false}
-use Rattle.law_calls.proofs.Shared.Facts.{same-self}
-use Rattle.law_calls.proofs.Shared.Places.{change-at, change-else}
+use Rattle.law_lists.proofs.Shared.Facts.{same-self}
+use Rattle.law_lists.proofs.Shared.Places.{change-at, change-else}
 use Rattle.arrivals_tree.specs.Arriving.{Arrivals}
 use Rattle.ada_tree.specs.Rules.{MeetsRules}
 use Rattle.law_written.proofs.Shared.Namings.{naming}

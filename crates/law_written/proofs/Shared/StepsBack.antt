@@ -33,8 +33,8 @@ use Rattle.arrivals_tree.specs.Arriving.{Arrivals}
 use Rattle.ada_tree.specs.Rules.{MeetsRules}
 use Rattle.law_ceilings.proofs.Shared.Pieces.{closers}
 use Rattle.law_ceilings.specs.Sections.{sections}
-use Rattle.law_calls.proofs.Shared.Places.{change-none}
-use Rattle.law_calls.proofs.Shared.Facts.{first-from}
+use Rattle.law_lists.proofs.Shared.Places.{change-none}
+use Rattle.law_lists.proofs.Shared.Facts.{first-from}
 
 -- what exclusion keeps of the tasks of each state of a run
 pub record IsKept (ts : List Task) : Type 0 where

@@ -12,8 +12,8 @@ use Rattle.guarantee.specs.Order.{is_task_name}
 use Rattle.law_written.proofs.Shared.Moves.{HasUnit}
 use Rattle.law_written.proofs.Shared.Claims.{task_at, guarded_at}
 use Rattle.law_calls.proofs.Shared.Threads.{thread_name}
-use Rattle.law_calls.proofs.Shared.Lists.{at-in, in-map, any-in}
-use Rattle.law_calls.proofs.Shared.Facts.{same-self}
+use Rattle.law_lists.proofs.Shared.Lists.{at-in, in-map, any-in}
+use Rattle.law_lists.proofs.Shared.Facts.{same-self}
 
 -- a unit by whose name a task of the software goes
 abbrev pub IsTask : Program → ℕ → Type 0

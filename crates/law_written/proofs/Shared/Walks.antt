@@ -17,7 +17,7 @@ use Rattle.machine.specs.Steps.{step, step_in, goes_to, effect_of, effect_at, ef
 use Rattle.machine.specs.Steps.{use_step, is_due}
 use Rattle.law_written.proofs.Shared.Moves.{threads_of, HasUnit, IsNow, is_stopping, Goes, change-threads, unit_of, release-goes, serve-goes}
 use Rattle.law_written.proofs.Shared.Moves.{acted-goes}
-use Rattle.law_calls.proofs.Shared.Facts.{first-from}
+use Rattle.law_lists.proofs.Shared.Facts.{first-from}
 use Rattle.std.proofs.lemmas.Bool.{eqb-true}
 
 -- a time that is not past the horizon, and before it where ticks are used

@@ -9,7 +9,7 @@ use Rattle.arrivals_tree.specs.declared.arrivals.Arrival.{Arrival}
 use Rattle.arrivals_tree.specs.Acceptance.{IsAccepted, Unknown, Far, Falling, works_fault, requests_fault, item_fault, request_fault_at, last_time}
 use Rattle.arrivals_tree.specs.Arriving.{Arrivals}
 use Rattle.trace_tree.specs.Placed.{IsUnit}
-use Rattle.law_calls.proofs.Shared.Facts.{or_else-none, no-fault}
+use Rattle.law_lists.proofs.Shared.Facts.{or_else-none, no-fault}
 
 at-least : (a b : ℕ) → nat_lt a b ≡ false → b ≤ a
 at-least a b e = grind arith

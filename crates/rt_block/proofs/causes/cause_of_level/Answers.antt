@@ -1,5 +1,5 @@
 use Rattle.std.proofs.Common.{arith}
-use Rattle.law_designs.proofs.Shared.CostRanges.{blocking-cheap}
+use Rattle.analysis.proofs.Shared.CostRanges.{blocking-cheap}
 use Rattle.rt_block.specs.Known.{design}
 use Rattle.rt_block.proofs.causes.cause_of_level.Goals as goal
 

@@ -24,8 +24,8 @@ use Rattle.analysis.specs.Sound.{IsSound}
 use Rattle.analysis.specs.Ceilings.{ceiling}
 use Rattle.analysis.specs.Blocking.{lower_sections, blocking}
 use Rattle.std.proofs.lemmas.Bool.{and_parts, leb-true}
-use Rattle.law_calls.proofs.Shared.Lists.{each-append, each-to, each-is, each-map}
-use Rattle.law_designs.proofs.Shared.Greatest.{fold-most}
+use Rattle.law_lists.proofs.Shared.Lists.{each-append, each-to, each-is, each-map}
+use Rattle.law_lists.proofs.Shared.Greatest.{fold-most}
 
 -- a dearer call makes no block cheaper
 module _ (c : Costs) (f g : Name → Name → ℕ) (less : (object op : Name) → f object op ≤ g object op) where

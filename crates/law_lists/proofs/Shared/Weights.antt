@@ -8,7 +8,7 @@ use Rattle.seq_tree.specs.Calls.{statement_calls, block_calls, branch_calls}
 use Rattle.seq_tree.specs.Dearest.{Weights, turn_count, dearest_statement, dearest, dearest_branch, free, counted}
 use Rattle.seq_tree.specs.declared.tree.Costs.{Costs}
 use Rattle.seq_tree.specs.declared.tree.OpName.{OpName}
-use Rattle.law_calls.proofs.Shared.Lists.{IsIn, in-left, in-right}
+use Rattle.law_lists.proofs.Shared.Lists.{IsIn, in-left, in-right}
 
 -- weights in which calls count this much
 abbrev pub weights : Costs → (ℕ → ℕ) → (Name → Name → ℕ) → Weights

@@ -6,7 +6,7 @@ use Rattle.std.proofs.Common.{sym, ◌∙◌, ap, subst, arith}
 use Rattle.std.proofs.lemmas.Bool.{false≢true}
 use Rattle.seq_tree.specs.Lists.{Each}
 use Rattle.seq_tree.specs.Rings.{LeadsTo, IsOnRing}
-use Rattle.law_calls.proofs.Shared.Lists.{IsIn, each-in, each-is}
+use Rattle.law_lists.proofs.Shared.Lists.{IsIn, each-in, each-is}
 
 -- what each node leads to, where it leads on
 module _ {A : Type 0} (next : A → Option (List A)) where

@@ -1,6 +1,6 @@
 -- The greatest of a number and those of a list: it is at least each, and at most what each is at most.
 use Rattle.std.proofs.Common.{ℕ, ◌≤◌, max, fold, List, [], ◌∷◌, refl, arith, inl, inr}
-use Rattle.law_calls.proofs.Shared.Lists.{IsIn}
+use Rattle.law_lists.proofs.Shared.Lists.{IsIn}
 
 pub at-least : (b : ℕ) (ns : List ℕ) → b ≤ fold max b ns
 at-least b [] = omega arith

@@ -6,7 +6,7 @@ use Rattle.seq_tree.specs.Rings.{LeadsTo}
 use Rattle.seq_tree.specs.declared.tree.OpName.{OpName}
 use Rattle.seq_tree.proofs.Shared.Walks.{Step, LeadOn, within, within-leads, leads-within, same_op-eq, same_op-refl}
 use Rattle.seq_tree.proofs.Shared.Walks as walks
-use Rattle.law_calls.proofs.Shared.Lists.{IsIn, any-in, any-at, at-in}
+use Rattle.law_lists.proofs.Shared.Lists.{IsIn, any-in, any-at, at-in}
 
 -- one among these, by a test and by itself
 pub among-is : (xs : List OpName) (c : OpName) → walks.IsIn xs c → IsIn c xs

@@ -4,7 +4,7 @@ use Rattle.std.proofs.Common.{sym, ◌∙◌, ap, arith}
 use Rattle.std.proofs.lemmas.Option.{same_Some, slice_get-map}
 use Rattle.machine.specs.Effects.{ceiling_of}
 use Rattle.machine.specs.States.{Object as InObject}
-use Rattle.law_homes.specs.Homes.{IsHome, IsOpenTo}
+use Rattle.law_ceilings.specs.Homes.{IsHome, IsOpenTo}
 use Rattle.task_runtime.specs.Fitting.{names_of}
 use Rattle.linked_task.specs.Works.{task_of}
 use Rattle.linked_task.specs.declared.piece.Deed.TheVariants.{Enter}

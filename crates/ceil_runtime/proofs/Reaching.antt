@@ -12,8 +12,8 @@ use Rattle.machine.proofs.Shared.RunLaws.{run_add}
 use Rattle.law_ceilings.specs.Premises.{MayExclude}
 use Rattle.law_dispatching.specs.Renumbering.{DifferInOrders}
 use Rattle.law_dispatching.proofs.Shared.Renumbered.{renumbered_none, renumbered_runs, renumbered_then}
-use Rattle.law_homes.specs.Homes.{AreHome, EntersHome}
-use Rattle.law_homes.proofs.Shared.Entering.{home-renumbered, run-home}
+use Rattle.law_ceilings.specs.Homes.{AreHome, EntersHome}
+use Rattle.law_ceilings.proofs.Shared.Entering.{home-renumbered, run-home}
 use Rattle.ceil_runtime.specs.Reaching.{IsReached}
 
 -- the opening

@@ -8,4 +8,5 @@ pub mod Layers
 pub mod Texts
 pub mod Taking
 pub mod Worked
+mod Examples
 pub mod Shared

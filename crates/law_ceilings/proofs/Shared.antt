@@ -2,11 +2,14 @@
 pub mod Arrivals
 pub mod Blocked
 pub mod Ceiled
+pub mod Ending
+pub mod Entering
 pub mod Excludes
 pub mod Excluding
 pub mod Fitting
 pub mod Keeping
 pub mod Kept
+pub mod Lending
 pub mod Limited
 pub mod Moves
 pub mod Passing

@@ -6,3 +6,4 @@ pub mod Ceilings
 pub mod Limits
 pub mod Laws
 pub mod TableLaws
+pub mod Homes

@@ -6,11 +6,17 @@
 //! level of priority waits for one section of one lower task at most. The last two are then said of a program whose tasks have a table,
 //! with the rows' blocking. `proofs/Worked.antt` has a program that meets the premises of each law.
 //!
+//! Exclusion has a first consequence (`specs/Homes.antt`). A protected object lends its data to the task that enters it and takes them back
+//! when the task leaves (`machine`). So an object that no task is inside has all its data, under the names and in the order in which they
+//! are written, and a task that enters an object finds them so.
+//!
 //! Other crates may cite these proofs of it (`proofs/Shared`):
 //!
 //! - `Arrivals`: the arrivals left are the last of all arrivals.
 //! - `Blocked`: blocking: while a level is pending, others use at most the ticks of one section of one lower task.
 //! - `Ceiled`: no run of a program stops at a ceiling where its tasks and protected bodies call at ceilings of at least their own priority.
+//! - `Ending`: the ends of protected bodies among the pieces of a task name the data that are written of their objects.
+//! - `Entering`: in each state of a run, also under other order numbers, data are at home, and a task that enters an object finds them.
 //! - `Excludes`: what the processor keeps of sections under the premises of exclusion: each is there and is held once.
 //! - `Excluding`: no section is entered while it is held: the ranks of calls keep a task from its own sections, and ceilings keep others
 //!   from them.
@@ -18,6 +24,7 @@
 //!   or leaves.
 //! - `Keeping`: the opening has what the processor keeps, and each step keeps it.
 //! - `Kept`: what the processor keeps: each ready task that may run before a holder has a base priority above the holder's active priority.
+//! - `Lending`: the opening has what the processor keeps of its objects' data, and each step keeps it.
 //! - `Limited`: the sections of lower tasks, one inside another too, are within a row's blocking, so that the processor blocks its task no
 //!   longer.
 //! - `Moves`: what is kept by each thing that happens to one task: it goes on, enters a section, leaves one, ends, is released, or begins
@@ -37,6 +44,7 @@
 
 ghost use Rattle.law_ceilings.specs.Laws.{HoldersAreSafe, ObjectsExclude, ControlsExclude, SystemsExclude, CeilingsHold, BlocksOnce};
 ghost use Rattle.law_ceilings.specs.TableLaws.{TabledRunsGoOn, BlockingWithinRows};
+ghost use Rattle.law_ceilings.specs.Homes.{DataAreHome, ProgramDataAreHome};
 ghost use Rattle.std.specs.Prelude.{ℕ};
 
 /// In every state that a run of a program that meets the rules reaches, under accepted arrivals up to any horizon, each ready
@@ -83,4 +91,15 @@ pub fn tabled_runs_go_on()
 /// blocking of its row (Sha, Rajkumar and Lehoczky 1990).
 pub fn blocking_within_rows()
     ensures { BlockingWithinRows }
+{}
+
+/// In every state that a run of a system reaches, where the system has what exclusion needs, each protected object that no task is
+/// inside has its data at home. An object that a task enters at the next step is such a one (ISO/IEC 8652:2012, 9.5.1 and D.3).
+pub fn data_are_home()
+    ensures { DataAreHome }
+{}
+
+/// The same in every run of a program that meets the rules, under accepted arrivals up to any horizon.
+pub fn program_data_are_home()
+    ensures { (limit : ℕ) → ProgramDataAreHome limit }
 {}

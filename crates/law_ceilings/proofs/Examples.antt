@@ -18,8 +18,8 @@ use Rattle.law_ceilings.specs.Premises.{Ranking, FallsTo, IsCovered, MayExclude}
 use Rattle.law_ceilings.specs.Bodies.{BlockFits}
 use Rattle.law_ceilings.specs.Sections.{Holds, IsFree}
 use Rattle.law_lists.proofs.Shared.Facts.{same-is}
-use Rattle.law_homes.specs.Homes.{AreAsWritten, AreHome, EntersHome, IsHome, IsOpenTo}
-use Rattle.law_homes.proofs.Shared.Entering.{run-home}
+use Rattle.law_ceilings.specs.Homes.{AreAsWritten, AreHome, EntersHome, IsHome, IsOpenTo}
+use Rattle.law_ceilings.proofs.Shared.Entering.{run-home}
 
 abbrev one : Costs
 one = record { assign = 1; test = 1; turn = 1; call = 1; nothing = 1; put = 1; finish = 1 }

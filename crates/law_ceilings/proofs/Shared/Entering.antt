@@ -19,8 +19,8 @@ use Rattle.law_ceilings.proofs.Shared.Fitting.{ActFits, IsEntered, done-fits}
 use Rattle.law_ceilings.proofs.Shared.Excludes.{Excludes}
 use Rattle.law_ceilings.proofs.Shared.Excluding.{falls-text, falls-bars, entry-free, step-excludes, opening-excludes}
 use Rattle.law_ceilings.proofs.Shared.Programs.{may-exclude}
-use Rattle.law_homes.specs.Homes.{AreHome, EntersHome}
-use Rattle.law_homes.proofs.Shared.Lending.{Lends, step-lends, opening-lends}
+use Rattle.law_ceilings.specs.Homes.{AreHome, EntersHome}
+use Rattle.law_ceilings.proofs.Shared.Lending.{Lends, step-lends, opening-lends}
 
 module _ (y : System) (as' : List Arrival) (ex : MayExclude y as') where
   -- what is kept of a state: sections are held once, and data are at home

@@ -14,7 +14,7 @@ use Rattle.machine.specs.Pieces.{Opening, Requested, Finishing, turns, pieces_of
 use Rattle.machine.specs.Deeds.{Act, Silent, Leave, deed, called, done}
 use Rattle.law_ceilings.proofs.Shared.Excluding.{callee-object}
 use Rattle.law_ceilings.proofs.Shared.Fitting.{either-way}
-use Rattle.law_homes.specs.Homes.{AreAsWritten}
+use Rattle.law_ceilings.specs.Homes.{AreAsWritten}
 
 -- data that are kept, and those that are written, have the names of the data
 pub kept-names : (data' : List Datum) (vars : Variables) → AreAsWritten data' (kept data' vars)

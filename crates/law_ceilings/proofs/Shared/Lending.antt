@@ -28,8 +28,8 @@ use Rattle.law_ceilings.proofs.Shared.Passing.{Face, face, faces, faces-same, fa
 use Rattle.law_ceilings.proofs.Shared.Passing.{go-faces}
 use Rattle.law_ceilings.proofs.Shared.Excluding.{face-at, at-face}
 use Rattle.law_lists.proofs.Shared.Places.{change-at, change-else, set-else, each-changed, mapped-at}
-use Rattle.law_homes.specs.Homes.{AreAsWritten, IsHome}
-use Rattle.law_homes.proofs.Shared.Ending.{AreEnds, HandsBack, block-ends, done-back, done-ends, written-names}
+use Rattle.law_ceilings.specs.Homes.{AreAsWritten, IsHome}
+use Rattle.law_ceilings.proofs.Shared.Ending.{AreEnds, HandsBack, block-ends, done-back, done-ends, written-names}
 
 -- what is kept of tasks and stores
 pub record AreLent (y : System) (ts : List Task) (stores : List Variables) : Type 0 where

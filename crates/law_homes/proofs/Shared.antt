@@ -1,4 +1,0 @@
--- What other crates may cite of the proofs of this one.
-pub mod Ending
-pub mod Entering
-pub mod Lending

@@ -1,5 +1,0 @@
-use Rattle.law_homes.proofs.Shared.Entering.{run-home}
-use Rattle.law_homes.proofs.data_are_home.Goals as goal
-
-pub returns : goal.returns
-returns c = λ y as' n ex. run-home y as' ex n

@@ -16,8 +16,8 @@ use Rattle.guarantee.specs.Events.{Event, named}
 use Rattle.guarantee.specs.Programs.{program}
 use Rattle.guarantee.specs.Software.{Software, program_software, software}
 use Rattle.guarantee.proofs.Shared.Same.{program-software}
-use Rattle.law_trace_lines.specs.Told.{HasPlainNames, IsEvent}
-use Rattle.law_trace_lines.proofs.Shared.Events.{tells-events}
+use Rattle.law_traces.specs.Told.{HasPlainNames, IsEvent}
+use Rattle.law_traces.proofs.Shared.Events.{tells-events}
 use Rattle.law_traces.specs.Checks.{follows, serves}
 use Rattle.law_traces.specs.Clear.{IsClear}
 use Rattle.law_traces.specs.Laws.{AreDecided}

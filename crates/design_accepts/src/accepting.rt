@@ -9,7 +9,7 @@ ghost use Rattle.guarantee.specs.Programs as programs;
 ghost use Rattle.guarantee.specs.Software.{program_software, software};
 ghost use Rattle.ods_rules.specs.Checks.{checked_design};
 ghost use Rattle.law_traces.specs.Verdicts.{IsVerdict};
-ghost use Rattle.law_trace_lines.specs.Told.{HasPlainNames};
+ghost use Rattle.law_traces.specs.Told.{HasPlainNames};
 ghost use Rattle.design_accepts.specs.Answers.{verdict_of};
 ghost use Rattle.design_accepts.specs.Units.{IsQuick};
 

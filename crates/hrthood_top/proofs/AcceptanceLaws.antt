@@ -12,7 +12,7 @@ use Rattle.guarantee.proofs.Shared.Same.{program-software}
 use Rattle.law_designs.proofs.Shared.ReadablePrograms.{program-readable}
 use Rattle.law_clear_programs.proofs.Shared.Clear.{clear}
 use Rattle.law_plain_names.proofs.Shared.Names.{design-plain}
-use Rattle.law_trace_lines.specs.Told.{HasPlainNames}
+use Rattle.law_traces.specs.Told.{HasPlainNames}
 use Rattle.law_traces.specs.Clear.{IsClear}
 use Rattle.law_traces.proofs.Shared.Judging.{one-verdict}
 use Rattle.law_traces.specs.Verdicts as verdict

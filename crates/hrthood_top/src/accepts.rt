@@ -4,7 +4,7 @@ ghost use Rattle.hood_io.specs.Sinks.{Puts};
 ghost use Rattle.ada_tree.specs.Rules.{MeetsRules};
 ghost use Rattle.guarantee.specs.Programs as programs;
 ghost use Rattle.ods_rules.specs.Checks.{checked_design};
-ghost use Rattle.law_trace_lines.specs.Told.{HasPlainNames};
+ghost use Rattle.law_traces.specs.Told.{HasPlainNames};
 ghost use Rattle.hrthood_top.specs.Acceptances.{acceptances, accepts_line, halted_trace, trace_line, yes_line};
 ghost use Rattle.hrthood_top.specs.Acceptances.{IsAcceptedSo, IsYes, RefusesAccepts, RefusesTrace};
 ghost use Rattle.hrthood_top.specs.Ends.{EndsVerb, outside};

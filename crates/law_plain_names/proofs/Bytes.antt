@@ -5,7 +5,7 @@ use Rattle.std.specs.Char.{is_ascii_alphabetic, is_ascii_alphanumeric}
 use Rattle.std.proofs.lemmas.Bool.{and_from, and_parts, ne_eqb, true≢false}
 use Rattle.seq_tree.specs.Lexis.{goes_on, is_name, is_underscore}
 use Rattle.ada_print.specs.Writable.{is_word}
-use Rattle.law_trace_lines.specs.Told.{Lacks, IsPlain}
+use Rattle.law_traces.specs.Told.{Lacks, IsPlain}
 
 -- a byte that passes a test that another fails
 other : (test : ℕ → Bool) (b c : ℕ) → test b ≡ true → test c ≡ false → not (b == c) ≡ true

@@ -6,7 +6,7 @@ use Rattle.ods_tree.specs.Reading.{Reads}
 use Rattle.ods_tree.specs.Ticks.{in_ticks}
 use Rattle.design_rules.specs.Rules.{MeetsRules}
 use Rattle.guarantee.specs.Programs.{program}
-use Rattle.law_trace_lines.specs.Told.{HasPlainNames}
+use Rattle.law_traces.specs.Told.{HasPlainNames}
 
 abbrev pub DesignsHavePlainNames : Type 0
 DesignsHavePlainNames = (x : Design) (bytes : List ℕ) → Reads bytes x → MeetsRules x → HasPlainNames (program (in_ticks x))

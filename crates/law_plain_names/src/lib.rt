@@ -1,6 +1,6 @@
 //! The names of the program of a design that was read are plain: a law over definitions alone, no code runs here.
 //!
-//! The lines of a trace tell its events where names hold no line feed, space or dot (`law_trace_lines`). Names that were read from a text are
+//! The lines of a trace tell its events where names hold no line feed, space or dot (`law_traces`). Names that were read from a text are
 //! letters, digits and underscores.
 //!
 //! Other crates may cite these proofs of it (`proofs/Shared`):

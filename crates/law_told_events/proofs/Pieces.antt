@@ -17,7 +17,7 @@ use Rattle.machine.specs.Pieces.{Opening, Requested, Finishing, turns, pieces_of
 use Rattle.machine.specs.Deeds.{PieceOutcome, done, called}
 use Rattle.machine.specs.Deeds.{Act, Silent, Print, Enter, Leave, Ask, Keep, Open, Ended, Finish}
 use Rattle.machine.specs.Effects.{object_unit, task_unit}
-use Rattle.law_trace_lines.specs.Told.{IsWord, IsWordWhere, AreWords}
+use Rattle.law_traces.specs.Told.{IsWord, IsWordWhere, AreWords}
 use Rattle.law_told_events.proofs.Values.{HoldWords, FitExpression, pick, value-fits, write-fits, kept-fits, reads-fit, reads-few, stored-fits}
 use Rattle.law_told_events.proofs.Values.{drop-fits, opened-fits, handed-fits, outs-few, request-fits}
 

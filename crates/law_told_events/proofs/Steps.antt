@@ -26,7 +26,7 @@ use Rattle.machine.specs.Meanings.{run, Rest}
 use Rattle.law_lists.proofs.Shared.Facts.{first-where}
 use Rattle.law_lists.proofs.Shared.Lists.{each-append}
 use Rattle.law_lists.proofs.Shared.Places.{all-at}
-use Rattle.law_trace_lines.specs.Told.{IsTicks, IsWord, IsWordWhere, IsEvent}
+use Rattle.law_traces.specs.Told.{IsTicks, IsWord, IsWordWhere, IsEvent}
 use Rattle.law_told_events.proofs.Values.{HoldWords, pick, kept-fits, parameter-fits}
 use Rattle.law_told_events.proofs.Pieces.{FitBlock, FitPieces, FitCallee, FitAct, block-fits, done-fits}
 

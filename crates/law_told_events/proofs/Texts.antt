@@ -17,7 +17,7 @@ use Rattle.ada_print.specs.Writable.{is_number}
 use Rattle.law_lists.proofs.Shared.Lists.{IsIn, in-left, in-right}
 use Rattle.law_designs.proofs.Shared.Lists.{all-in}
 use Rattle.law_texts.proofs.Shared.LegibleUnits.{AreLegibleData, IsLegibleBlock}
-use Rattle.law_trace_lines.specs.Told.{IsWord}
+use Rattle.law_traces.specs.Told.{IsWord}
 use Rattle.law_told_events.proofs.Values.{HoldWords, FitExpression}
 use Rattle.law_told_events.proofs.Pieces.{FitStatement, FitBlock, FitBranches}
 

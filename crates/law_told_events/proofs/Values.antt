@@ -20,7 +20,7 @@ use Rattle.seq_tree.specs.declared.tree.Datum.{Datum}
 use Rattle.machine.specs.Releases.{parameter}
 use Rattle.machine.specs.Systems.{ReleasePattern, Periodic, Requested}
 use Rattle.law_lists.proofs.Shared.Lists.{each-append}
-use Rattle.law_trace_lines.specs.Told.{IsWord, IsWordWhere}
+use Rattle.law_traces.specs.Told.{IsWord, IsWordWhere}
 
 -- one of two
 pub pick : {A : Type 0} (P : A → Type 0) (b : Bool) (x y : A) → P x → P y → P (if b then x else y)

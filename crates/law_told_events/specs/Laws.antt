@@ -11,7 +11,7 @@ use Rattle.arrivals_tree.specs.Arrived.{Arrives, horizon_limit}
 use Rattle.trace_tree.specs.declared.event.Event.{Event}
 use Rattle.machine.specs.Meanings.{Meaning}
 use Rattle.guarantee.specs.Programs.{program}
-use Rattle.law_trace_lines.specs.Told.{IsEvent}
+use Rattle.law_traces.specs.Told.{IsEvent}
 
 -- a design that was read and meets the rules, and arrivals that a text says of its program: all that the program tells are events of it
 abbrev pub DesignsTellEvents : Type 0

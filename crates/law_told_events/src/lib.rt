@@ -2,7 +2,7 @@
 //!
 //! An event names units and operations by their places in the program, and has times and values. The places are those of the program, since
 //! calls lead to its operations; values are words, since those of the texts were read as words and every operator gives a word; and there are
-//! at most eight of them, since a rule says so of parameters. So the lines of a run tell its events back (`law_trace_lines`), and the trace
+//! at most eight of them, since a rule says so of parameters. So the lines of a run tell its events back (`law_traces`), and the trace
 //! that the processor writes is one that the checks of a trace can read (`law_traces`).
 //!
 //! Other crates may cite these proofs of it (`proofs/Shared`):

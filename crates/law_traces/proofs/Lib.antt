@@ -4,4 +4,5 @@ pub mod Objects
 pub mod Charges
 pub mod Scripts
 pub mod Examples
+pub mod Courses
 pub mod Shared

@@ -12,7 +12,7 @@ use Rattle.guarantee.specs.Allowed.{IsPeriodic, IsRequested, Permits}
 use Rattle.law_traces.specs.Clear.{IsClear}
 use Rattle.law_traces.specs.Parts.{Serves, Follows}
 use Rattle.ada_tree.specs.Programs.{Program}
-use Rattle.law_trace_lines.specs.Told.{HasPlainNames}
+use Rattle.law_traces.specs.Told.{HasPlainNames}
 use Rattle.law_traces.specs.Verdicts.{Verdict, IsVerdictOn, IsVerdict, judged}
 use Rattle.law_traces.specs.Checks.{in_order, is_periodic, are_told, is_requested, serves, follows}
 

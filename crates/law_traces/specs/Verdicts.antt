@@ -13,7 +13,7 @@ use Rattle.guarantee.specs.Arrivals.{Arrivals}
 use Rattle.guarantee.specs.Order.{IsInOrder}
 use Rattle.guarantee.specs.Requests.{AreTold}
 use Rattle.guarantee.specs.Allowed.{IsPeriodic, IsRequested, Permits}
-use Rattle.law_trace_lines.specs.Told.{IsEvent}
+use Rattle.law_traces.specs.Told.{IsEvent}
 use Rattle.law_traces.specs.Parts.{Serves, Follows}
 use Rattle.law_traces.specs.Checks.{in_order, is_periodic, are_told, is_requested, serves, follows}
 

@@ -14,7 +14,7 @@ use Rattle.trace_tree.specs.declared.event.Event as machine
 use Rattle.trace_tree.specs.declared.event.Event.TheVariants as event
 use Rattle.guarantee.specs.Events.{Event, named, named_event}
 use Rattle.guarantee.specs.Software.{program_software}
-use Rattle.law_trace_lines.specs.Told.{HasPlainNames, IsEvent}
+use Rattle.law_traces.specs.Told.{HasPlainNames, IsEvent}
 use Rattle.law_lists.proofs.Shared.Lists.{each-append}
 use Rattle.trace_read.proofs.Shared.Nexts.{lines-push, next-shorter}
 use Rattle.law_traces.specs.Checks.{in_order, are_told}

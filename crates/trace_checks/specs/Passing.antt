@@ -9,7 +9,7 @@ use Rattle.trace_tree.specs.Placed.{IsUnit}
 use Rattle.trace_tree.specs.declared.event.Event as machine
 use Rattle.guarantee.specs.Events.{Event, named}
 use Rattle.guarantee.specs.Software.{program_software}
-use Rattle.law_trace_lines.specs.Told.{IsEvent}
+use Rattle.law_traces.specs.Told.{IsEvent}
 use Rattle.law_traces.specs.Checks.{in_order, are_told}
 use Rattle.trace_checks.specs.Timing.{in_order_by}
 use Rattle.trace_checks.specs.Cycles.{first_release}

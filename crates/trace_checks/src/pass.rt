@@ -4,7 +4,7 @@ ghost use Rattle.ada_tree.specs.Rules.{MeetsRules};
 ghost use Rattle.ada_tree.specs.Trees.{program_of};
 ghost use Rattle.trace_tree.specs.Placed.{IsUnit};
 ghost use Rattle.arrivals_tree.specs.Arriving.{arrivals_of};
-ghost use Rattle.law_trace_lines.specs.Told.{HasPlainNames};
+ghost use Rattle.law_traces.specs.Told.{HasPlainNames};
 ghost use Rattle.guarantee.specs.Arrivals.{named_arrivals};
 ghost use Rattle.trace_checks.specs.Accepted.{AcceptedArrivalsAreOfUnits};
 ghost use Rattle.trace_checks.specs.Meanings.{Means};

@@ -7,10 +7,10 @@ use Rattle.trace_tree.specs.Lines.{unit_name, op_name, value_words, option_words
 use Rattle.trace_tree.specs.Placed.{IsUnit, IsOp}
 use Rattle.trace_tree.specs.declared.event.Event.{Event}
 use Rattle.trace_tree.specs.declared.event.Event.TheVariants as event
-use Rattle.law_trace_lines.specs.Told.{HasPlainNames, IsTicks, IsWord, AreWords, IsEvent}
-use Rattle.law_trace_lines.specs.Cuts.{cut}
-use Rattle.law_trace_lines.proofs.Shared.Words.{cut-front, cut-last}
-use Rattle.law_trace_lines.proofs.Shared.Events.{unit-plain, op-plain}
+use Rattle.law_traces.specs.Told.{HasPlainNames, IsTicks, IsWord, AreWords, IsEvent}
+use Rattle.law_traces.specs.Cuts.{cut}
+use Rattle.law_traces.proofs.Shared.Words.{cut-front, cut-last}
+use Rattle.law_traces.proofs.Shared.Events.{unit-plain, op-plain}
 use Rattle.trace_read.specs.declared.kind.Kind.{Kind}
 use Rattle.trace_read.specs.declared.kind.Kind.TheVariants.{Release, Arrive, Enter, Leave, Request, Print, End, Stop, Horizon}
 use Rattle.trace_read.specs.Names.{unit_of_name, op_of_name}

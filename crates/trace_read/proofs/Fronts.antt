@@ -10,10 +10,10 @@ use Rattle.ada_tree.specs.Rules.{MeetsRules}
 use Rattle.trace_tree.specs.Lines.{line, lines, words}
 use Rattle.trace_tree.specs.declared.event.Event as machine
 use Rattle.guarantee.specs.Events.{Event, named, named_event}
-use Rattle.law_trace_lines.specs.Told.{Lacks, HasPlainNames, IsEvent}
-use Rattle.law_trace_lines.specs.Cuts.{cut}
-use Rattle.law_trace_lines.proofs.Shared.Words.{cut-join}
-use Rattle.law_trace_lines.proofs.Shared.Events.{text, line-cut, line-some, some-words, words-lack, clear-space, fixed-space, tells-event}
+use Rattle.law_traces.specs.Told.{Lacks, HasPlainNames, IsEvent}
+use Rattle.law_traces.specs.Cuts.{cut}
+use Rattle.law_traces.proofs.Shared.Words.{cut-join}
+use Rattle.law_traces.proofs.Shared.Events.{text, line-cut, line-some, some-words, words-lack, clear-space, fixed-space, tells-event}
 use Rattle.law_traces.specs.Verdicts.{BeginsNoLine}
 use Rattle.trace_read.specs.declared.lines.NoLine.{NoLine}
 use Rattle.trace_read.specs.Lines.{Tells, IsNext}

@@ -10,7 +10,7 @@ use Rattle.ada_tree.specs.Rules.{MeetsRules}
 use Rattle.trace_tree.specs.Lines.{line, lines}
 use Rattle.trace_tree.specs.declared.event.Event.{Event}
 use Rattle.law_lists.proofs.Shared.Lists.{each-append}
-use Rattle.law_trace_lines.specs.Told.{HasPlainNames, IsEvent}
+use Rattle.law_traces.specs.Told.{HasPlainNames, IsEvent}
 use Rattle.law_traces.specs.Verdicts.{BeginsNoLine}
 use Rattle.trace_read.specs.Chains.{AreStarts}
 use Rattle.trace_read.specs.Gathered.{AreLines, IsNoLine}

@@ -13,7 +13,7 @@ use Rattle.std.proofs.lemmas.Fmt.{decimal_is_IsNumeral}
 use Rattle.seq_tree.specs.Lists.{Each}
 use Rattle.trace_tree.specs.Lines.{value_words, option_words}
 use Rattle.law_lists.proofs.Shared.Lists.{each-append}
-use Rattle.law_trace_lines.specs.Told.{IsTicks, IsWord, IsWordWhere, AreWords}
+use Rattle.law_traces.specs.Told.{IsTicks, IsWord, IsWordWhere, AreWords}
 use Rattle.trace_read.specs.Reading.{Bytes, number_from, number_of, value_of, maybe_value, values_from, values_of}
 
 in-range : (c : ℕ) → 48 ≤ c → c ≤ 57 → is_ascii_digit c ≡ true

@@ -5,9 +5,9 @@ use Rattle.std.proofs.lemmas.Bool.{and_from, and_parts, ne_eqb, true≢false}
 use Rattle.std.proofs.lemmas.List.{append-nil, take-append-drop}
 use Rattle.std.proofs.lemmas.Slice.Eq.{bytes_eq-Decides}
 use Rattle.std.proofs.Math.Seq.{take-append_seam}
-use Rattle.law_trace_lines.specs.Told.{Lacks}
-use Rattle.law_trace_lines.specs.Cuts.{cut}
-use Rattle.law_trace_lines.proofs.Shared.Words.{cut-front, cut-last}
+use Rattle.law_traces.specs.Told.{Lacks}
+use Rattle.law_traces.specs.Cuts.{cut}
+use Rattle.law_traces.proofs.Shared.Words.{cut-front, cut-last}
 
 abbrev Stepped : ℕ → List ℕ → List ℕ → ℕ → Type 0
 Stepped by bytes rest len = (len ≤ length bytes) × (rest ≡ drop len bytes) × Lacks by (take len bytes)

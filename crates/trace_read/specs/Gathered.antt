@@ -5,7 +5,7 @@ use Rattle.seq_tree.specs.Lists.{Each}
 use Rattle.ada_tree.specs.Programs.{Program}
 use Rattle.trace_tree.specs.Lines.{lines}
 use Rattle.trace_tree.specs.declared.event.Event.{Event}
-use Rattle.law_trace_lines.specs.Told.{IsEvent}
+use Rattle.law_traces.specs.Told.{IsEvent}
 use Rattle.law_traces.specs.Verdicts.{BeginsNoLine}
 use Rattle.trace_read.specs.declared.gather.Unread.{Unread}
 use Rattle.trace_read.specs.declared.gather.Unread.TheVariants.{Line, NoMemory}

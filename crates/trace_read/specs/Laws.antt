@@ -4,7 +4,7 @@ use Rattle.std.specs.Prelude.{◌≡◌, ℕ, List, [], ◌∷◌, Option, Some,
 use Rattle.ada_tree.specs.Programs.{Program}
 use Rattle.trace_tree.specs.declared.event.Event as machine
 use Rattle.guarantee.specs.Events.{Event, named_event}
-use Rattle.law_trace_lines.specs.Told.{HasPlainNames}
+use Rattle.law_traces.specs.Told.{HasPlainNames}
 use Rattle.trace_read.specs.declared.lines.NoLine.{NoLine}
 use Rattle.trace_read.specs.Lines.{Tells, IsNext}
 

@@ -7,7 +7,7 @@ use Rattle.ada_tree.specs.Programs.{Program}
 use Rattle.trace_tree.specs.Lines.{line, lines}
 use Rattle.trace_tree.specs.declared.event.Event as machine
 use Rattle.guarantee.specs.Events.{Event, named}
-use Rattle.law_trace_lines.specs.Told.{IsEvent}
+use Rattle.law_traces.specs.Told.{IsEvent}
 use Rattle.law_traces.specs.Verdicts.{BeginsNoLine}
 use Rattle.trace_read.specs.declared.lines.NoLine.{NoLine}
 

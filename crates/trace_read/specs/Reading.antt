@@ -6,7 +6,7 @@ use Rattle.std.specs.Char.{is_ascii_digit}
 use Rattle.ada_tree.specs.Programs.{Program}
 use Rattle.trace_tree.specs.declared.event.Event.{Event}
 use Rattle.trace_tree.specs.declared.event.Event.TheVariants as event
-use Rattle.law_trace_lines.specs.Cuts.{cut}
+use Rattle.law_traces.specs.Cuts.{cut}
 use Rattle.trace_read.specs.Names.{unit_of_name, op_of_name}
 use Rattle.trace_read.specs.declared.kind.Kind.{Kind}
 use Rattle.trace_read.specs.declared.kind.Kind.TheVariants.{Release, Arrive, Enter, Leave, Request, Print, End, Stop, Horizon}

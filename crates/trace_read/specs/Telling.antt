@@ -3,7 +3,7 @@
 use Rattle.std.specs.Prelude.{ℕ, List, filter_map}
 use Rattle.ada_tree.specs.Programs.{Program}
 use Rattle.trace_tree.specs.declared.event.Event.{Event}
-use Rattle.law_trace_lines.specs.Cuts.{cut}
+use Rattle.law_traces.specs.Cuts.{cut}
 use Rattle.trace_read.specs.Reading.{event_of}
 
 -- the events that these pieces tell

@@ -1,6 +1,6 @@
 ghost use Rattle.std.specs.Prelude.{◌≡◌, option_map};
 ghost use Rattle.ada_tree.specs.Trees.{program_of};
-ghost use Rattle.law_trace_lines.specs.Cuts.{cut};
+ghost use Rattle.law_traces.specs.Cuts.{cut};
 ghost use Rattle.trace_read.specs.Reading.{deed_of, event_of, happens, level_of, maybe_value, op_of, passage_of, request_of, stop_of, used_of};
 ghost use Rattle.trace_read.specs.Reading.{values_of};
 

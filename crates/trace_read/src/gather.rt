@@ -1,6 +1,6 @@
 ghost use Rattle.std.specs.Prelude.{◌≡◌, ◌∷◌, ◌++◌, [], IfOk, OnOk};
 ghost use Rattle.ada_tree.specs.Rules.{MeetsRules};
-ghost use Rattle.law_trace_lines.specs.Told.{HasPlainNames};
+ghost use Rattle.law_traces.specs.Told.{HasPlainNames};
 ghost use Rattle.trace_read.specs.Gathered.{Gathers};
 ghost use Rattle.trace_read.specs.Texts.{table_program};
 ghost use Rattle.trace_read.specs.declared.gather.Unread.TheVariants.{NoMemory as Lacking};

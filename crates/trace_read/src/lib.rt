@@ -1,6 +1,6 @@
 //! The bytes of a trace from anywhere, read as lines of events.
 //!
-//! It stands on `trace_text`, which writes the line of an event, on `name_sets` for tables of names, and on the laws of `law_trace_lines` and
+//! It stands on `trace_text`, which writes the line of an event, on `name_sets` for tables of names, and on the laws of `law_traces` and
 //! `law_trace_places`. `Lines::next` carries the promise: an event exactly where the bytes at hand begin with the line of one, and then the bytes
 //! behind it. A line is read by its words, and its event is written again and compared, so that no other way of writing is taken. `read_events`
 //! gives the events of a whole text as `Events`, that holds none of them: each is read again where it is asked for, by its index. Tables of the lines

@@ -3,7 +3,7 @@ ghost use Rattle.ada_tree.specs.Trees.{program_of};
 ghost use Rattle.ada_tree.specs.Rules.{MeetsRules};
 ghost use Rattle.trace_tree.specs.Lines.{line};
 ghost use Rattle.trace_tree.specs.Placed.{IsPlaced};
-ghost use Rattle.law_trace_lines.specs.Told.{HasPlainNames};
+ghost use Rattle.law_traces.specs.Told.{HasPlainNames};
 ghost use Rattle.trace_read.specs.Laws.{LinesGoOn};
 ghost use Rattle.trace_read.specs.Lines.{IsFront, IsNext};
 

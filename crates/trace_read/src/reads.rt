@@ -1,7 +1,7 @@
 ghost use Rattle.std.specs.Prelude.{◌≡◌, ◌∷◌, [], IfSome, MatchOption, drop, suc};
 ghost use Rattle.ada_tree.specs.Trees.{program_of};
-ghost use Rattle.law_trace_lines.specs.Cuts.{cut};
-ghost use Rattle.law_trace_lines.specs.Told.{IsEvent};
+ghost use Rattle.law_traces.specs.Cuts.{cut};
+ghost use Rattle.law_traces.specs.Told.{IsEvent};
 ghost use Rattle.trace_read.specs.Chains.{AreStarts};
 ghost use Rattle.trace_read.specs.Reading.{event_of};
 ghost use Rattle.trace_read.specs.Telling.{events_in, told_by};

@@ -1,5 +1,5 @@
 ghost use Rattle.std.specs.Prelude.{◌≡◌, ◌∷◌};
-ghost use Rattle.law_trace_lines.specs.Cuts.{cut};
+ghost use Rattle.law_traces.specs.Cuts.{cut};
 ghost use Rattle.trace_read.specs.Pieces.{pieces};
 
 /// The first piece of bytes between bytes of one kind, and the bytes behind it, where a byte of this kind ends it.

@@ -1,5 +1,5 @@
 ghost use Rattle.std.specs.Prelude.{◌≡◌, ◌∷◌, [], MatchOption};
-ghost use Rattle.law_trace_lines.specs.Cuts.{cut};
+ghost use Rattle.law_traces.specs.Cuts.{cut};
 
 use crate::split::split;
 use std::marker::Model;

@@ -21,7 +21,7 @@ use Rattle.law_lists.proofs.Shared.Facts.{is-same}
 use Rattle.law_traces.specs.Clear.{is_request, asked_op}
 use Rattle.law_traces.proofs.Shared.Finding.{same-turned}
 use Rattle.trace_scripts.specs.Scripts.{asked_name}
-use Rattle.law_trace_lines.proofs.Shared.Events.{each-at}
+use Rattle.law_traces.proofs.Shared.Events.{each-at}
 
 module _ (target : Name) where
   abbrev asks : Service → Bool

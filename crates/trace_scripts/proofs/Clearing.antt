@@ -15,11 +15,11 @@ use Rattle.law_walks.specs.Fit.{MayRun}
 use Rattle.law_traces.specs.Clear.{IsClear}
 use Rattle.law_traces.specs.Checks.{serves}
 use Rattle.law_trace_places.specs.Places.{guarded_in, task_in}
-use Rattle.law_scripts.specs.Entries.{entries_in}
-use Rattle.law_scripts.specs.Services as services
-use Rattle.law_scripts.specs.Services.{served_from}
-use Rattle.law_scripts.specs.Laws.{at_first}
-use Rattle.law_scripts.proofs.Shared.Served.{served-sound}
+use Rattle.law_traces.specs.Entries.{entries_in}
+use Rattle.law_traces.specs.Services as services
+use Rattle.law_traces.specs.Services.{served_from}
+use Rattle.law_traces.specs.PassLaws.{at_first}
+use Rattle.law_traces.proofs.Shared.Served.{served-sound}
 use Rattle.trace_scripts.specs.Objects.{AreServing}
 use Rattle.trace_scripts.specs.Scenes.{AllBlocks}
 use Rattle.trace_scripts.specs.Serving.{MayAll, objects_from, services_first}

@@ -6,8 +6,8 @@ use Rattle.std.proofs.Math.Bool.{and-true, and-false}
 use Rattle.seq_tree.specs.Runs.{Path}
 use Rattle.seq_tree.specs.Variables.{Variables, entered, kept}
 use Rattle.guarantee.specs.Software.{Software, Task}
-use Rattle.law_scripts.specs.Progress as laws
-use Rattle.law_scripts.specs.Progress.{ends_by, left_by, left_by_course}
+use Rattle.law_traces.specs.Progress as laws
+use Rattle.law_traces.specs.Progress.{ends_by, left_by, left_by_course}
 use Rattle.law_traces.specs.Checks.{run_along}
 use Rattle.guarantee.specs.Scripts.{released_vars}
 use Rattle.seq_tree.specs.Statements.{Statements}
@@ -19,8 +19,8 @@ use Rattle.trace_scripts.specs.Threads.{IsOf, after_event, charged_by, entered_i
 use Rattle.trace_tree.specs.declared.event.Event as machine
 use Rattle.trace_scripts.specs.Scripts.{IsAt, action_at, action_by}
 use Rattle.trace_scripts.proofs.Holding.{at-index}
-use Rattle.law_scripts.specs.Entries.{Shown}
-use Rattle.law_scripts.specs.Progress.{after_deed}
+use Rattle.law_traces.specs.Entries.{Shown}
+use Rattle.law_traces.specs.Progress.{after_deed}
 use Rattle.seq_tree.specs.Names.{Name}
 use Rattle.seq_tree.specs.Runs as runs
 use Rattle.seq_tree.specs.declared.tree.OpName.{OpName}

@@ -18,9 +18,9 @@ use Rattle.guarantee.specs.Events.{Deed, Release, Arrive, Enter, Leave, Request,
 use Rattle.guarantee.specs.Steps.{is_own}
 use Rattle.law_traces.specs.Checks.{action_of, both, does_in, is_passed, scripted}
 use Rattle.law_trace_places.proofs.Shared.Units.{unit-names}
-use Rattle.law_scripts.specs.Entries as entries
-use Rattle.law_scripts.specs.Entries.{Shown, shown_at, with_action, stack_of, entry_at, entries_in}
-use Rattle.law_scripts.proofs.Shared.Stacks.{stack-by, inside-shown}
+use Rattle.law_traces.specs.Entries as entries
+use Rattle.law_traces.specs.Entries.{Shown, shown_at, with_action, stack_of, entry_at, entries_in}
+use Rattle.law_traces.proofs.Shared.Stacks.{stack-by, inside-shown}
 use Rattle.trace_read.specs.Deeds.{passed_in}
 use Rattle.trace_read.specs.declared.deeds.Part.TheVariants.{Other, Plain, Opens, Closes}
 use Rattle.trace_scripts.specs.Insides.{entries_from, entry_from, inside_by, inside_from}

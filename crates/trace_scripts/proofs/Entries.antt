@@ -8,8 +8,8 @@ use Rattle.seq_tree.specs.Operations.{Operation, out_names}
 use Rattle.seq_tree.specs.Runs.{Path}
 use Rattle.seq_tree.specs.Variables.{Variables, kept, reads}
 use Rattle.ods_tree.specs.Flats.{Guarded}
-use Rattle.law_scripts.specs.Services as services
-use Rattle.law_scripts.specs.Services.{inside_by, last_by, charge_by}
+use Rattle.law_traces.specs.Services as services
+use Rattle.law_traces.specs.Services.{inside_by, last_by, charge_by}
 use Rattle.trace_scripts.specs.Scenes.{IsWalk}
 use Rattle.trace_scripts.specs.declared.walks.Walked.TheVariants.{Ran, Begun, Astray}
 use Rattle.seq_eval.proofs.Shared.Reading.{same-names}

@@ -12,7 +12,7 @@ use Rattle.trace_tree.specs.Lines.{unit_name}
 use Rattle.trace_tree.specs.Placed.{IsUnit}
 use Rattle.law_trace_places.specs.Places.{guarded_at, guarded_in}
 use Rattle.law_trace_places.proofs.Shared.Units.{object-name}
-use Rattle.law_scripts.specs.Services as services
+use Rattle.law_traces.specs.Services as services
 use Rattle.trace_scripts.proofs.Finding.{found-here, found-past, passes}
 use Rattle.trace_scripts.specs.Objects.{AreServing, broken_by, service_of}
 use Rattle.trace_scripts.specs.declared.services.Service.{Service}

@@ -6,8 +6,8 @@ use Rattle.seq_tree.specs.Variables.{Variables}
 use Rattle.ada_tree.specs.Programs.{Program}
 use Rattle.guarantee.specs.Software.{Task, program_software}
 use Rattle.guarantee.specs.Events.{Release, Arrive, Enter, Leave, Request, Print, End, Stop, Event, By, Horizon}
-use Rattle.law_scripts.specs.Progress as laws
-use Rattle.law_scripts.specs.Progress.{active_by, after_deed, again_by, course_from, is_good, left_by_course}
+use Rattle.law_traces.specs.Progress as laws
+use Rattle.law_traces.specs.Progress.{active_by, after_deed, again_by, course_from, is_good, left_by_course}
 use Rattle.trace_scripts.specs.Threads.{after_event, is_at_horizon, released_in, step_by}
 
 none-some : {A : Type 0} (x : A) → (let o : Option A = None in o) ≡ Some x → ⊥

@@ -7,8 +7,8 @@ use Rattle.ada_tree.specs.Programs.{Program}
 use Rattle.guarantee.specs.Events.{named_event}
 use Rattle.trace_tree.specs.declared.event.Event as machine
 use Rattle.law_traces.specs.Checks.{both}
-use Rattle.law_scripts.specs.Entries.{Shown}
-use Rattle.law_scripts.specs.Progress.{with_last}
+use Rattle.law_traces.specs.Entries.{Shown}
+use Rattle.law_traces.specs.Progress.{with_last}
 use Rattle.trace_scripts.specs.Insides.{joined}
 use Rattle.trace_scripts.specs.Scripts.{IsAt, action_at, action_by, actions_at, first_action, shown_of}
 use Rattle.trace_scripts.specs.declared.scripts.Script.{Script}

@@ -5,7 +5,7 @@ use Rattle.ada_tree.specs.Programs.{Program}
 use Rattle.trace_tree.specs.declared.event.Event as machine
 use Rattle.guarantee.specs.Events.{named_event}
 use Rattle.law_traces.specs.Checks.{both}
-use Rattle.law_scripts.specs.Entries.{Shown}
+use Rattle.law_traces.specs.Entries.{Shown}
 use Rattle.trace_read.specs.Deeds.{Reaches, exit_by, from_exit, from_own, own_by, part_of}
 use Rattle.trace_read.specs.declared.deeds.Part.{Part}
 use Rattle.trace_read.specs.declared.deeds.Part.TheVariants.{Other, Plain, Opens, Closes}

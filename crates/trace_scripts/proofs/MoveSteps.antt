@@ -18,10 +18,10 @@ use Rattle.guarantee.specs.Software.{Task, program_software}
 use Rattle.law_traces.specs.Verdicts.{Shared}
 use Rattle.law_trace_places.specs.Places.{guarded_at, task_at, task_in}
 use Rattle.law_trace_places.proofs.Shared.Units.{item-at, task-name}
-use Rattle.law_scripts.specs.Progress as laws
-use Rattle.law_scripts.specs.Progress.{is_well}
-use Rattle.law_scripts.specs.Services as services
-use Rattle.law_scripts.specs.Services.{is_served, is_sound}
+use Rattle.law_traces.specs.Progress as laws
+use Rattle.law_traces.specs.Progress.{is_well}
+use Rattle.law_traces.specs.Services as services
+use Rattle.law_traces.specs.Services.{is_served, is_sound}
 use Rattle.trace_read.specs.Deeds.{Reads, task_of}
 use Rattle.trace_scripts.specs.Moving.{AreFollowing, AreOf, good_at, good_with, move_by, moved_at, threads_from, threads_with, well_by}
 use Rattle.trace_scripts.specs.Objects.{service_of}
@@ -35,7 +35,7 @@ use Rattle.trace_scripts.specs.declared.services.Service.{Service}
 use Rattle.trace_scripts.proofs.Finding.{found-here, found-past, passes}
 use Rattle.trace_scripts.proofs.Objecting.{change-same, read-at, state-set}
 use Rattle.trace_scripts.proofs.Passing.{behind-is}
-use Rattle.law_trace_lines.proofs.Shared.Events.{each-at}
+use Rattle.law_traces.proofs.Shared.Events.{each-at}
 
 -- THE THREAD at a place
 pub record Found (p : Program) (unit : ℕ) (h : Thread) : Type 0 where

@@ -21,9 +21,9 @@ use Rattle.seq_tree.specs.Trees.{block_of, operation_of}
 use Rattle.seq_tree.specs.declared.tree.OpText.{OpText}
 use Rattle.trace_text.proofs.Shared.Names.{read-map}
 use Rattle.guarantee.specs.Software.{program_software}
-use Rattle.law_scripts.specs.Entries as entries
-use Rattle.law_scripts.specs.Services as services
-use Rattle.law_scripts.specs.Services.{entered_in, left_in, charge_in}
+use Rattle.law_traces.specs.Entries as entries
+use Rattle.law_traces.specs.Services as services
+use Rattle.law_traces.specs.Services.{entered_in, left_in, charge_in}
 use Rattle.trace_scripts.specs.Objects.{object_of, service_of}
 use Rattle.trace_scripts.specs.Scenes.{AllBlocks, AllIn}
 use Rattle.trace_scripts.specs.Serving.{leave_by, enter_by, charge_by, left_at, entered_at, charged_at, service_at}
@@ -31,7 +31,7 @@ use Rattle.trace_scripts.specs.declared.objects.Object.{Object}
 use Rattle.trace_scripts.specs.declared.services.Service.{Service}
 use Rattle.trace_scripts.proofs.Readings.{unit-ops}
 use Rattle.trace_scripts.proofs.ObjectsNamed.{map-at}
-use Rattle.law_trace_lines.proofs.Shared.Events.{each-at}
+use Rattle.law_traces.proofs.Shared.Events.{each-at}
 
 -- one item of a list under a view: changed, and read
 changed-at : {A B : Type 0} (view : A → B) (xs : List A) (i : ℕ) (x y : A) (f : B → B) → i < length xs → x ≡ get_or xs i x → view y ≡ f (view x)

@@ -17,10 +17,10 @@ use Rattle.guarantee.specs.Events.{named, named_event, op_at}
 use Rattle.law_traces.specs.Checks.{object_named}
 use Rattle.law_trace_places.specs.Places.{guarded_at, guarded_in}
 use Rattle.law_trace_places.proofs.Shared.Units.{item-at, unit-names, what-it-is}
-use Rattle.law_scripts.specs.Entries.{Entry}
-use Rattle.law_scripts.specs.Services.{Service, Free, Broken, served_by, served_from, changed_by, charge_for, charge_at, charges_from}
-use Rattle.law_scripts.specs.Laws.{at_first}
-use Rattle.law_scripts.proofs.Shared.Charged.{found-name}
+use Rattle.law_traces.specs.Entries.{Entry}
+use Rattle.law_traces.specs.Services.{Service, Free, Broken, served_by, served_from, changed_by, charge_for, charge_at, charges_from}
+use Rattle.law_traces.specs.PassLaws.{at_first}
+use Rattle.law_traces.proofs.Shared.Charged.{found-name}
 use Rattle.trace_scripts.specs.Serving.{enter_by, leave_by, charge_by, service_at, objects_with, objects_from, charge_with, charges_by, first_by}
 use Rattle.trace_scripts.specs.Serving.{services_first}
 use Rattle.trace_scripts.proofs.Entering.{get-changed}

@@ -3,7 +3,7 @@ use Rattle.std.proofs.Common.{◌≡◌, ℕ, suc, List, [], ◌∷◌, Some, dr
 use Rattle.seq_tree.specs.Lists.{Each}
 use Rattle.ada_tree.specs.Programs.{Program}
 use Rattle.trace_tree.specs.declared.event.Event as machine
-use Rattle.law_scripts.specs.Services as services
+use Rattle.law_traces.specs.Services as services
 use Rattle.trace_read.specs.Deeds.{Reads, first_task, task_of}
 use Rattle.trace_scripts.specs.Insides.{entries_from, entry_from}
 use Rattle.trace_scripts.specs.Scripts.{IsAt}

@@ -21,13 +21,13 @@ use Rattle.law_traces.specs.Checks.{follows, most_used, serves}
 use Rattle.law_traces.specs.Clear.{IsClear}
 use Rattle.law_trace_places.specs.Places.{guarded_at, task_at, task_in}
 use Rattle.law_trace_places.proofs.Shared.Units.{item-at, name-is, task-name, unit-names, what-it-is}
-use Rattle.law_scripts.specs.Entries.{entries_in}
-use Rattle.law_scripts.specs.Progress as laws
-use Rattle.law_scripts.specs.Progress.{is_good, is_well, moved_by, moved_from, step_on}
-use Rattle.law_scripts.specs.Services as services
-use Rattle.law_scripts.specs.Services.{is_served, is_sound}
-use Rattle.law_scripts.specs.Laws.{at_first, charges_in, is_served_in}
-use Rattle.law_scripts.proofs.Shared.Told.{thread-told}
+use Rattle.law_traces.specs.Entries.{entries_in}
+use Rattle.law_traces.specs.Progress as laws
+use Rattle.law_traces.specs.Progress.{is_good, is_well, moved_by, moved_from, step_on}
+use Rattle.law_traces.specs.Services as services
+use Rattle.law_traces.specs.Services.{is_served, is_sound}
+use Rattle.law_traces.specs.PassLaws.{at_first, charges_in, is_served_in}
+use Rattle.law_traces.proofs.Shared.Told.{thread-told}
 use Rattle.trace_scripts.specs.Insides.{entries_from}
 use Rattle.trace_scripts.specs.Moving.{AreFollowing, good_at, good_with, idle_at_first, move_by, threads_first, threads_from, threads_with}
 use Rattle.trace_scripts.specs.Objects.{AreServing}

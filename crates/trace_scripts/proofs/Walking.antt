@@ -16,7 +16,7 @@ use Rattle.seq_eval.specs.Scripts.{is_over, stopped_at}
 use Rattle.seq_eval.specs.declared.action.Followed.{Followed}
 use Rattle.seq_eval.specs.declared.action.Followed.TheVariants.{Done, Short, Off}
 use Rattle.law_traces.specs.Checks.{run_by, begins_by, run_along, begins_along}
-use Rattle.law_scripts.specs.Entries.{Shown}
+use Rattle.law_traces.specs.Entries.{Shown}
 use Rattle.trace_scripts.specs.Scripts.{actions_at, shown_of}
 use Rattle.trace_scripts.specs.Scenes.{IsWalk, calls_of, program_in, software_of}
 use Rattle.trace_scripts.specs.declared.scripts.Script.{Script}

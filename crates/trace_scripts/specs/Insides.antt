@@ -7,8 +7,8 @@ use Rattle.trace_tree.specs.declared.event.Event as machine
 use Rattle.trace_tree.specs.declared.event.Event.TheVariants as event
 use Rattle.guarantee.specs.Events.{named_event}
 use Rattle.law_traces.specs.Checks.{both}
-use Rattle.law_scripts.specs.Entries as entries
-use Rattle.law_scripts.specs.Entries.{Shown, no_entry}
+use Rattle.law_traces.specs.Entries as entries
+use Rattle.law_traces.specs.Entries.{Shown, no_entry}
 use Rattle.trace_read.specs.Deeds.{part_of, passed_in}
 use Rattle.trace_read.specs.declared.deeds.Part.{Part}
 use Rattle.trace_read.specs.declared.deeds.Part.TheVariants.{Other, Plain, Opens, Closes}

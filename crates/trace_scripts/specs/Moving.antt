@@ -9,10 +9,10 @@ use Rattle.trace_tree.specs.Placed.{IsUnit}
 use Rattle.guarantee.specs.Software.{Software, Task, program_software}
 use Rattle.guarantee.specs.Events.{Event, named_event}
 use Rattle.law_trace_places.specs.Places.{guarded_at, task_at, task_in}
-use Rattle.law_scripts.specs.Progress as laws
-use Rattle.law_scripts.specs.Progress.{is_well}
-use Rattle.law_scripts.specs.Services as services
-use Rattle.law_scripts.specs.Services.{is_served, is_sound}
+use Rattle.law_traces.specs.Progress as laws
+use Rattle.law_traces.specs.Progress.{is_well}
+use Rattle.law_traces.specs.Services as services
+use Rattle.law_traces.specs.Services.{is_served, is_sound}
 use Rattle.trace_scripts.specs.Serving.{service_at}
 use Rattle.trace_scripts.specs.Threads.{IsOf, progress_of, step_by}
 use Rattle.trace_scripts.specs.declared.moves.Threads.{Threads}

@@ -6,7 +6,7 @@ use Rattle.law_trace_places.specs.Places.{guarded_at}
 use Rattle.seq_tree.specs.Names.{Name}
 use Rattle.seq_tree.specs.Trees.{operation_of}
 use Rattle.ods_tree.specs.Flats.{Guarded}
-use Rattle.law_scripts.specs.Services as services
+use Rattle.law_traces.specs.Services as services
 use Rattle.trace_scripts.specs.declared.objects.Object.{Object}
 use Rattle.trace_scripts.specs.declared.objects.Objects.{Objects}
 use Rattle.trace_scripts.specs.declared.services.Charge.{Charge}

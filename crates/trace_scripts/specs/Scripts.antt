@@ -11,7 +11,7 @@ use Rattle.guarantee.specs.Events.{Event, By, Horizon, named_event}
 use Rattle.law_traces.specs.Checks.{action_of}
 use Rattle.trace_tree.specs.declared.event.Event as machine
 use Rattle.trace_tree.specs.Placed.{IsPlaced}
-use Rattle.law_scripts.specs.Entries.{Shown}
+use Rattle.law_traces.specs.Entries.{Shown}
 use Rattle.trace_scripts.specs.declared.scripts.Script.{Script}
 
 -- the action that an event shows, where it shows one

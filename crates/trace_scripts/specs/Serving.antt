@@ -13,8 +13,8 @@ use Rattle.guarantee.specs.Software.{Software, program_software, leads_to}
 use Rattle.guarantee.specs.Events.{op_at}
 use Rattle.law_trace_places.specs.Places.{guarded_at, guarded_in}
 use Rattle.trace_scripts.specs.Scenes.{AllIn}
-use Rattle.law_scripts.specs.Entries as entries
-use Rattle.law_scripts.specs.Services.{Service, Free, Broken, entered_in, left_in, charge_in}
+use Rattle.law_traces.specs.Entries as entries
+use Rattle.law_traces.specs.Services.{Service, Free, Broken, entered_in, left_in, charge_in}
 
 -- blocks that may be walked
 abbrev pub MayAll : Program → ℕ → Type 0

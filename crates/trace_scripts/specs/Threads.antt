@@ -5,8 +5,8 @@ use Rattle.seq_tree.specs.Trees.{block_of}
 use Rattle.ada_tree.specs.Programs.{Program}
 use Rattle.guarantee.specs.Software.{Task, params_of, program_software}
 use Rattle.guarantee.specs.Events.{Event, Release, By, Horizon}
-use Rattle.law_scripts.specs.Progress as laws
-use Rattle.law_scripts.specs.Progress.{after_deed, all_shown, is_good, step_on, with_last}
+use Rattle.law_traces.specs.Progress as laws
+use Rattle.law_traces.specs.Progress.{after_deed, all_shown, is_good, step_on, with_last}
 use Rattle.trace_tree.specs.declared.event.Event as machine
 use Rattle.trace_scripts.specs.Scripts.{shown_of}
 use Rattle.trace_scripts.specs.declared.progress.Course.{Course}

@@ -1,7 +1,7 @@
 ghost use Rattle.std.specs.Prelude.{◌≡◌, ◌≤◌, List, suc, IfOk, OnOk, Some, drop, length};
 ghost use Rattle.ada_tree.specs.Programs.{Program};
 ghost use Rattle.law_traces.specs.Checks.{both};
-ghost use Rattle.law_scripts.specs.Entries.{Shown};
+ghost use Rattle.law_traces.specs.Entries.{Shown};
 ghost use Rattle.guarantee.specs.Events.{named_event};
 ghost use Rattle.trace_tree.specs.declared.event.Event as machine;
 ghost use Rattle.trace_read.specs.Deeds.{first_task};

@@ -1,6 +1,6 @@
 //! A trace as its threads and objects: whether the operations of each object are run one by one, and what each activation shows.
 //!
-//! The definitions are those of `law_traces`, in the passes of `law_scripts`. `first_wrong` carries the promise: the first thread
+//! The definitions are those of `law_traces`, in the passes of `law_traces`. `first_wrong` carries the promise: the first thread
 //! whose activations the trace shows wrong, else the first object whose operations it does not run one by one.
 #![tactic(auto)]
 

@@ -11,7 +11,7 @@ ghost use Rattle.guarantee.specs.Events.{named_event};
 ghost use Rattle.guarantee.specs.Software.{Task, leads_to};
 ghost use Rattle.trace_tree.specs.declared.event.Event as machine;
 ghost use Rattle.trace_tree.specs.Placed.{IsPlaced};
-ghost use Rattle.law_scripts.specs.Progress.{Active, again_by, all_shown, course_from, ends_by, left_by_course, with_last};
+ghost use Rattle.law_traces.specs.Progress.{Active, again_by, all_shown, course_from, ends_by, left_by_course, with_last};
 ghost use Rattle.trace_scripts.specs.Objects.{charge_of};
 ghost use Rattle.trace_scripts.specs.Scripts.{IsAt, action_at};
 ghost use Rattle.trace_scripts.specs.Scenes.{IsScene, calls_of, program_in, software_of};

@@ -1,6 +1,6 @@
 ghost use Rattle.std.specs.Prelude.{◌≡◌, [], List, OnOk, Some, is_some};
 ghost use Rattle.ada_tree.specs.Programs.{Program};
-ghost use Rattle.law_scripts.specs.Progress.{with_last};
+ghost use Rattle.law_traces.specs.Progress.{with_last};
 ghost use Rattle.trace_tree.specs.declared.event.Event as machine;
 ghost use Rattle.trace_scripts.specs.Scripts.{action_at, shown_of};
 

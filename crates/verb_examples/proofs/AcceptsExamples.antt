@@ -14,7 +14,7 @@ use Rattle.guarantee.specs.Events.{named}
 use Rattle.guarantee.specs.Allowed.{Permits}
 use Rattle.guarantee.specs.Programs.{program}
 use Rattle.guarantee.specs.Software.{software}
-use Rattle.law_trace_lines.specs.Told.{IsEvent}
+use Rattle.law_traces.specs.Told.{IsEvent}
 use Rattle.law_traces.specs.Verdicts.{Verdict, IsVerdict, BeginsNoLine}
 use Rattle.law_traces.specs.Verdicts as verdict
 use Rattle.design_accepts.specs.declared.unaccepted.Unaccepted.{Unaccepted}

@@ -25,7 +25,7 @@ use Rattle.law_designs.proofs.Shared.Units.{UnitFrom, OfLibrary, OfGuarded, OfTh
 use Rattle.law_texts.proofs.Shared.LegibleObjects.{IsLegibleObject, objects-legible}
 use Rattle.law_texts.proofs.Shared.LegibleTicks.{legible-in-ticks}
 use Rattle.law_texts.proofs.Shared.LegibleDesigns.{thread-named, request-in}
-use Rattle.law_trace_lines.specs.Told.{IsPlain, HasPlainNames}
+use Rattle.law_traces.specs.Told.{IsPlain, HasPlainNames}
 use Rattle.law_plain_names.proofs.Bytes.{plain}
 
 abbrev AreNamed : List Signature → Type 0

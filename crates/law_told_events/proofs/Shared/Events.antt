@@ -46,7 +46,7 @@ use Rattle.law_texts.proofs.Shared.LegibleDesigns.{unit-read}
 use Rattle.law_texts.proofs.Shared.LegibleObjects.{IsLegibleObject, objects-legible}
 use Rattle.law_texts.proofs.Shared.LegibleTicks.{legible-in-ticks}
 use Rattle.law_texts.proofs.Shared.LegibleUnits.{IsLegibleUnit}
-use Rattle.law_trace_lines.specs.Told.{IsWordWhere, IsEvent}
+use Rattle.law_traces.specs.Told.{IsWordWhere, IsEvent}
 use Rattle.law_told_events.proofs.Texts.{number-word}
 use Rattle.law_told_events.proofs.Steps.{TellsOf, rest-tells}
 use Rattle.law_told_events.proofs.Programs.{threads-fit, objects-fit, callees-fit}

@@ -26,7 +26,7 @@ use Rattle.law_traces.specs.Checks.{object_named, op_named}
 use Rattle.law_traces.proofs.Shared.Finding.{same-turned}
 use Rattle.law_trace_places.specs.Places.{task_in, guarded_in, guarded_at}
 use Rattle.law_trace_places.specs.Laws.{TellsWhatItIs}
-use Rattle.law_trace_lines.proofs.Shared.Events.{each-at}
+use Rattle.law_traces.proofs.Shared.Events.{each-at}
 
 -- the item at a place inside a list
 pub item-at : {A : Type 0} (xs : List A) (k : ℕ) → k < length xs → (x : A) × (slice_get xs k ≡ Some x)

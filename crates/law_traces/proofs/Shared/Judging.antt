@@ -16,8 +16,8 @@ use Rattle.guarantee.specs.Arrivals.{Arrivals}
 use Rattle.guarantee.specs.Order.{IsInOrder}
 use Rattle.guarantee.specs.Requests.{AreTold}
 use Rattle.guarantee.specs.Allowed.{IsPeriodic, IsRequested}
-use Rattle.law_trace_lines.specs.Told.{HasPlainNames, IsEvent}
-use Rattle.law_trace_lines.proofs.Shared.Events.{tells-event, tells-events, line-some}
+use Rattle.law_traces.specs.Told.{HasPlainNames, IsEvent}
+use Rattle.law_traces.proofs.Shared.Events.{tells-event, tells-events, line-some}
 use Rattle.law_traces.specs.Clear.{IsClear}
 use Rattle.law_traces.specs.Parts.{Serves, Follows}
 use Rattle.law_traces.specs.Checks.{in_order, is_periodic, are_told, is_requested, serves, follows}

@@ -7,8 +7,8 @@ use Rattle.ada_tree.specs.Programs.{Program}
 use Rattle.ada_tree.specs.Rules.{MeetsRules}
 use Rattle.trace_tree.specs.Lines.{line, lines}
 use Rattle.trace_tree.specs.declared.event.Event.{Event}
-use Rattle.law_trace_lines.specs.Told.{HasPlainNames}
-use Rattle.law_trace_lines.proofs.Shared.Events.{line-some}
+use Rattle.law_traces.specs.Told.{HasPlainNames}
+use Rattle.law_traces.proofs.Shared.Events.{line-some}
 
 pub lines-push : (p : Program) (es : List Event) (e : Event) → lines p (es ++ e ∷ []) ≡ lines p es ++ line p e
 lines-push p es e = flat_map-append (line p) es (e ∷ []) ∙ ap (λ z. lines p es ++ z) (flat_map-cons (line p) e [] ∙ append-nil (line p e))

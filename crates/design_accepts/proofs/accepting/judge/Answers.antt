@@ -4,7 +4,7 @@ use Rattle.ada_tree.specs.Rules.{MeetsRules}
 use Rattle.ada_tree.specs.Trees.{program_of}
 use Rattle.arrivals_tree.specs.Arriving.{arrivals_of}
 use Rattle.guarantee.specs.Arrivals.{named_arrivals}
-use Rattle.law_trace_lines.specs.Told.{HasPlainNames}
+use Rattle.law_traces.specs.Told.{HasPlainNames}
 use Rattle.trace_checks.proofs.Shared.Accepting.{accepted}
 use Rattle.trace_read.specs.Texts.{table_program}
 use Rattle.design_accepts.proofs.Judging.{all-placed, table-lines, units-hold, units-refused}

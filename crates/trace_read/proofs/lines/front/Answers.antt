@@ -1,6 +1,6 @@
 use Rattle.std.proofs.Common.{sym, ◌∙◌}
 use Rattle.ada_tree.specs.Trees.{program_of}
-use Rattle.law_trace_lines.specs.Cuts.{cut}
+use Rattle.law_traces.specs.Cuts.{cut}
 use Rattle.trace_read.proofs.Fitting.{event-fits}
 use Rattle.trace_read.proofs.Fronts.{untold, unwritten}
 use Rattle.trace_read.proofs.lines.front.Goals as goal

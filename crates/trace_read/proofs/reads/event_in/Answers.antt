@@ -1,5 +1,5 @@
 use Rattle.ada_tree.specs.Trees.{program_of}
-use Rattle.law_trace_lines.specs.Cuts.{cut}
+use Rattle.law_traces.specs.Cuts.{cut}
 use Rattle.trace_read.proofs.Fitting.{event-where}
 use Rattle.trace_read.proofs.reads.event_in.Goals as goal
 

@@ -1,5 +1,5 @@
 use Rattle.std.proofs.Common.{◌<◌, length, ap, ◌∙◌, arith}
-use Rattle.law_trace_lines.specs.Cuts.{cut}
+use Rattle.law_traces.specs.Cuts.{cut}
 use Rattle.trace_read.specs.Telling.{events_in, told_by}
 use Rattle.trace_read.specs.Texts.{table_program}
 use Rattle.trace_read.proofs.Telling.{tells-where}

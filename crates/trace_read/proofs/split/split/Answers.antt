@@ -1,5 +1,5 @@
 use Rattle.std.proofs.Common.{◌∷◌, ◌∙◌, sym, ap}
-use Rattle.law_trace_lines.specs.Cuts.{cut}
+use Rattle.law_traces.specs.Cuts.{cut}
 use Rattle.trace_read.proofs.Splitting.{split-step, split-found, split-last}
 use Rattle.trace_read.proofs.split.split.Goals as goal
 

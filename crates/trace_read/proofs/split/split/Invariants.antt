@@ -1,5 +1,5 @@
 use Rattle.std.proofs.Common.{◌≡◌, ◌≤◌, length, take, drop}
-use Rattle.law_trace_lines.specs.Told.{Lacks}
+use Rattle.law_traces.specs.Told.{Lacks}
 use Rattle.trace_read.proofs.split.split.Given as goal
 
 -- the bytes before those that are left lack this one

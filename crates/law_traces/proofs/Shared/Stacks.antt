@@ -9,7 +9,7 @@ use Rattle.guarantee.specs.Steps.{Step, moments, first_way, steps_of, is_own}
 use Rattle.law_traces.specs.Levels.{level, with_deed, levels}
 use Rattle.law_traces.specs.Checks.{action_of, both, scripted, does_in}
 use Rattle.law_traces.proofs.Shared.Leveling.{tells-insides}
-use Rattle.law_scripts.specs.Entries.{shown_at, with_action, stack_of}
+use Rattle.law_traces.specs.Entries.{shown_at, with_action, stack_of}
 
 -- scripts of levels
 shown-level : (w : Software) (k : ℕ) (ls : List (List Deed)) → scripted w (level k ls) ≡ shown_at k (map (scripted w) ls)

@@ -14,12 +14,12 @@ use Rattle.guarantee.specs.Steps.{first_way}
 use Rattle.law_traces.specs.Checks.{scripted, run_along, begins_along, run_of, op_named, object_named, body_by}
 use Rattle.law_traces.specs.Checks.{is_passage, is_passed, does_in, endless, body_in, way_of, way_in, kept_in, data_after, ways_from}
 use Rattle.law_traces.proofs.Shared.Finding.{found-passes}
-use Rattle.law_scripts.specs.Entries.{Entry, entry_at, entries_in}
-use Rattle.law_scripts.specs.Services.{Service, Free, Inside, Last, Broken, is_sound, inside_by, last_by, ran_by, entered_by, entered_in, left_in}
-use Rattle.law_scripts.specs.Services.{charge_by, run_by_op, charge_in, served_by, served_from, changed_by, charge_for, charge_at, charges_from}
-use Rattle.law_scripts.specs.Services.{is_served}
-use Rattle.law_scripts.specs.Progress.{is_good}
-use Rattle.law_scripts.proofs.Shared.Served.{wrong, broken-stays}
+use Rattle.law_traces.specs.Entries.{Entry, entry_at, entries_in}
+use Rattle.law_traces.specs.Services.{Service, Free, Inside, Last, Broken, is_sound, inside_by, last_by, ran_by, entered_by, entered_in, left_in}
+use Rattle.law_traces.specs.Services.{charge_by, run_by_op, charge_in, served_by, served_from, changed_by, charge_for, charge_at, charges_from}
+use Rattle.law_traces.specs.Services.{is_served}
+use Rattle.law_traces.specs.Progress.{is_good}
+use Rattle.law_traces.proofs.Shared.Served.{wrong, broken-stays}
 
 -- the ticks of a way
 abbrev PairOf : ℕ × ℕ → Path → Type 0

@@ -14,12 +14,12 @@ use Rattle.guarantee.specs.Steps.{Placed}
 use Rattle.law_traces.specs.Parts.{enters}
 use Rattle.law_traces.specs.Checks.{object_named, written_in, most_used, ways, serves, follows, is_among_served}
 use Rattle.law_traces.proofs.Shared.Finding.{same-turned}
-use Rattle.law_scripts.specs.Entries.{entries_in}
-use Rattle.law_scripts.specs.Services.{Service, Free, is_sound, served_from, charges_from, is_served}
-use Rattle.law_scripts.specs.Progress.{Idle, is_good, is_well, moved_from}
-use Rattle.law_scripts.proofs.Courses.{from-idle}
-use Rattle.law_scripts.proofs.Shared.Served.{served-sound}
-use Rattle.law_scripts.proofs.Shared.Charged.{Owns, Kept, charged-from}
+use Rattle.law_traces.specs.Entries.{entries_in}
+use Rattle.law_traces.specs.Services.{Service, Free, is_sound, served_from, charges_from, is_served}
+use Rattle.law_traces.specs.Progress.{Idle, is_good, is_well, moved_from}
+use Rattle.law_traces.proofs.Courses.{from-idle}
+use Rattle.law_traces.proofs.Shared.Served.{served-sound}
+use Rattle.law_traces.proofs.Shared.Charged.{Owns, Kept, charged-from}
 
 module _ (serving : Guarded → Bool) where
   abbrev enters_any : Name → List Placed → Bool

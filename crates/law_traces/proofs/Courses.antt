@@ -19,10 +19,10 @@ use Rattle.guarantee.specs.Steps.{Step, Placed, moments, first_way, is_own, step
 use Rattle.guarantee.specs.Scripts.{Activation, Activations, grouped_by, grouped, least_by, most_by, least_inside, most_inside, released_vars}
 use Rattle.law_traces.specs.Checks.{action_of, both, scripted, run_along, begins_along, run_of, begins, Ended, ended_at, with_step, ended, is_charged}
 use Rattle.law_traces.specs.Checks.{whole_by, activation_by, are_runs, are_activations}
-use Rattle.law_scripts.specs.Entries.{Shown}
-use Rattle.law_scripts.specs.Progress.{Course, Progress, Idle, Active, Astray, course_from, with_last, all_shown, end_by, shown_by, is_good, ticks_by}
-use Rattle.law_scripts.specs.Progress.{seen_at, charged_in, after_deed, is_within, left_by, left_by_course, again_by, active_by, idle_by}
-use Rattle.law_scripts.specs.Progress.{step_on, ends_by, is_well, moved_from}
+use Rattle.law_traces.specs.Entries.{Shown}
+use Rattle.law_traces.specs.Progress.{Course, Progress, Idle, Active, Astray, course_from, with_last, all_shown, end_by, shown_by, is_good, ticks_by}
+use Rattle.law_traces.specs.Progress.{seen_at, charged_in, after_deed, is_within, left_by, left_by_course, again_by, active_by, idle_by}
+use Rattle.law_traces.specs.Progress.{step_on, ends_by, is_well, moved_from}
 
 abbrev deeds : List Step → List Deed
 deeds ss = map (λ s. s.deed) ss

@@ -8,7 +8,7 @@ use Rattle.ods_tree.specs.Flats.{Guarded}
 use Rattle.guarantee.specs.Software.{Software}
 use Rattle.guarantee.specs.Events.{Enter, Leave, Event, By}
 use Rattle.law_traces.specs.Checks.{op_named, object_named, run_along, begins_along}
-use Rattle.law_scripts.specs.Entries.{Shown, Entry}
+use Rattle.law_traces.specs.Entries.{Shown, Entry}
 
 -- what an object is at
 pub data Service : Type 0 where

@@ -20,9 +20,9 @@ use Rattle.law_traces.specs.Checks.{scripted, run_along, begins_along, run_of, b
 use Rattle.law_traces.specs.Checks.{one_by_one, is_passed, is_nil}
 use Rattle.law_traces.specs.Checks.{serves, ways}
 use Rattle.law_traces.proofs.Shared.Pairs.{inside-same}
-use Rattle.law_scripts.specs.Entries.{Entry, entry_at, entries_in}
-use Rattle.law_scripts.specs.Services.{Service, Free, Inside, Last, Broken, is_sound, inside_by, last_by, ran_by, entered_by, entered_in, left_in}
-use Rattle.law_scripts.specs.Services.{served_from}
+use Rattle.law_traces.specs.Entries.{Entry, entry_at, entries_in}
+use Rattle.law_traces.specs.Services.{Service, Free, Inside, Last, Broken, is_sound, inside_by, last_by, ran_by, entered_by, entered_in, left_in}
+use Rattle.law_traces.specs.Services.{served_from}
 
 pub wrong : {A : Type 0} → true ≡ false → A
 wrong e = absurd (cc)

@@ -6,7 +6,7 @@ use Rattle.ada_tree.specs.Programs.{Program}
 use Rattle.trace_tree.specs.Lines.{line, lines}
 use Rattle.trace_tree.specs.declared.event.Event.{Event}
 use Rattle.guarantee.specs.Events.{named, named_event}
-use Rattle.law_trace_lines.specs.Told.{HasPlainNames, IsEvent}
+use Rattle.law_traces.specs.Told.{HasPlainNames, IsEvent}
 
 -- the first lines of a text are lines of one list of events only, as far as both go
 abbrev pub LinesTellEvents : Type 0

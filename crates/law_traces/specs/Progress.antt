@@ -10,7 +10,7 @@ use Rattle.guarantee.specs.Events.{Deed, Release, Enter, End, Event, By, Horizon
 use Rattle.guarantee.specs.Steps.{depth_of, depth_after, is_own}
 use Rattle.guarantee.specs.Scripts.{released_vars}
 use Rattle.law_traces.specs.Checks.{action_of, run_along, begins_along}
-use Rattle.law_scripts.specs.Entries.{Shown}
+use Rattle.law_traces.specs.Entries.{Shown}
 
 -- an activation so far
 pub record Course : Type 0 where

@@ -8,8 +8,8 @@ use Rattle.std.proofs.lemmas.Bool.{and_from, and_parts, eq-eqb, ne_eqb}
 use Rattle.std.proofs.lemmas.Fmt.{decimal_is_IsNumeral}
 use Rattle.std.proofs.lemmas.List.Folds.{list_all-append}
 use Rattle.seq_tree.specs.Lists.{Each}
-use Rattle.law_trace_lines.specs.Told.{Lacks}
-use Rattle.law_trace_lines.specs.Cuts.{push, cut}
+use Rattle.law_traces.specs.Told.{Lacks}
+use Rattle.law_traces.specs.Cuts.{push, cut}
 
 pub lacks-append : (c : ℕ) (xs ys : List ℕ) → Lacks c xs → Lacks c ys → Lacks c (xs ++ ys)
 lacks-append c xs ys h i = list_all-append (λ b. not (b == c)) xs ys ∙ and_from _ _ h i

@@ -7,9 +7,9 @@ use Rattle.guarantee.specs.Software.{Software, Task}
 use Rattle.guarantee.specs.Events.{Deed, Event, By}
 use Rattle.guarantee.specs.Steps.{is_own}
 use Rattle.law_traces.specs.Checks.{action_of, scripted, does_in, object_named, written_in, most_used, serves, follows}
-use Rattle.law_scripts.specs.Entries.{shown_at, with_action, stack_of, entries_in}
-use Rattle.law_scripts.specs.Services.{Service, Free, is_sound, served_from, charges_from, is_served}
-use Rattle.law_scripts.specs.Progress.{Idle, is_well, moved_from}
+use Rattle.law_traces.specs.Entries.{shown_at, with_action, stack_of, entries_in}
+use Rattle.law_traces.specs.Services.{Service, Free, is_sound, served_from, charges_from, is_served}
+use Rattle.law_traces.specs.Progress.{Idle, is_well, moved_from}
 
 -- what is inside an operation, by the scripts of its thread's levels, and these from the end of a trace backwards
 pub record StacksTell (w : Software) (thread : Name) (later : List Event) : Type 0 where

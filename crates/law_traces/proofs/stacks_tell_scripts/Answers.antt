@@ -1,5 +1,5 @@
-use Rattle.law_scripts.proofs.Shared.Stacks.{stack-by, inside-shown}
-use Rattle.law_scripts.proofs.stacks_tell_scripts.Goals as goal
+use Rattle.law_traces.proofs.Shared.Stacks.{stack-by, inside-shown}
+use Rattle.law_traces.proofs.stacks_tell_scripts.Goals as goal
 
 pub returns : goal.returns
 returns c = λ w thread later. record {

@@ -17,9 +17,9 @@ use Rattle.trace_tree.specs.Lines.{unit_name, unit_ops, op_name, value_words, op
 use Rattle.trace_tree.specs.declared.event.Event as machine
 use Rattle.trace_tree.specs.declared.event.Event.TheVariants as event
 use Rattle.guarantee.specs.Events.{Deed, Release, Arrive, Enter, Leave, Request, Print, End, Stop, Event, By, Horizon, op_at, named, named_event}
-use Rattle.law_trace_lines.specs.Told.{Lacks, IsPlain, HasPlainNames, IsTicks, IsWord, IsWordWhere, HasItsNumbers, IsEvent}
-use Rattle.law_trace_lines.specs.Cuts.{cut}
-use Rattle.law_trace_lines.proofs.Shared.Words.{cut-front, cut-last, cut-join, lacks-append, lacks-join, decimal-lacks, number-back}
+use Rattle.law_traces.specs.Told.{Lacks, IsPlain, HasPlainNames, IsTicks, IsWord, IsWordWhere, HasItsNumbers, IsEvent}
+use Rattle.law_traces.specs.Cuts.{cut}
+use Rattle.law_traces.proofs.Shared.Words.{cut-front, cut-last, cut-join, lacks-append, lacks-join, decimal-lacks, number-back}
 
 -- a number by its digits
 abbrev number : List ℕ → ℕ

@@ -1,4 +1,0 @@
-pub mod Entries
-pub mod Services
-pub mod Progress
-pub mod Laws

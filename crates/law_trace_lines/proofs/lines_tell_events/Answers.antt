@@ -1,5 +1,0 @@
-use Rattle.law_trace_lines.proofs.Shared.Events.{tells-events}
-use Rattle.law_trace_lines.proofs.lines_tell_events.Goals as goal
-
-pub returns : goal.returns
-returns c = λ p plain es fs h i same. tells-events p plain es fs h i same

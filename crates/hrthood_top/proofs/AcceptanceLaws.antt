@@ -11,7 +11,7 @@ use Rattle.guarantee.specs.Software.{software}
 use Rattle.guarantee.proofs.Shared.Same.{program-software}
 use Rattle.law_designs.proofs.Shared.ReadablePrograms.{program-readable}
 use Rattle.law_clear_programs.proofs.Shared.Clear.{clear}
-use Rattle.law_plain_names.proofs.Shared.Names.{design-plain}
+use Rattle.law_event_lines.proofs.Shared.Names.{design-plain}
 use Rattle.law_traces.specs.Told.{HasPlainNames}
 use Rattle.law_traces.specs.Clear.{IsClear}
 use Rattle.law_traces.proofs.Shared.Judging.{one-verdict}

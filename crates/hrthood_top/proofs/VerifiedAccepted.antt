@@ -16,7 +16,7 @@ use Rattle.guarantee.specs.Software.{software}
 use Rattle.hood_io.specs.Shelves.{Told}
 use Rattle.hood_io.specs.Sinks.{Appends}
 use Rattle.law_traces.specs.Told.{IsEvent}
-use Rattle.law_told_events.proofs.Shared.Events.{design-events}
+use Rattle.law_event_lines.proofs.Shared.Events.{design-events}
 use Rattle.law_two_runs.proofs.Shared.RightReplays.{right-replay}
 use Rattle.hrthood_words.specs.Words.{Command, Verify, Accepts, command_of}
 use Rattle.hrthood_top.specs.declared.file_kind.FileKind.{FileKind}

@@ -18,8 +18,8 @@ use Rattle.machine.specs.Deeds.{PieceOutcome, done, called}
 use Rattle.machine.specs.Deeds.{Act, Silent, Print, Enter, Leave, Ask, Keep, Open, Ended, Finish}
 use Rattle.machine.specs.Effects.{object_unit, task_unit}
 use Rattle.law_traces.specs.Told.{IsWord, IsWordWhere, AreWords}
-use Rattle.law_told_events.proofs.Values.{HoldWords, FitExpression, pick, value-fits, write-fits, kept-fits, reads-fit, reads-few, stored-fits}
-use Rattle.law_told_events.proofs.Values.{drop-fits, opened-fits, handed-fits, outs-few, request-fits}
+use Rattle.law_event_lines.proofs.Values.{HoldWords, FitExpression, pick, value-fits, write-fits, kept-fits, reads-fit, reads-few, stored-fits}
+use Rattle.law_event_lines.proofs.Values.{drop-fits, opened-fits, handed-fits, outs-few, request-fits}
 
 -- statements whose numbers are words, where they come to a value
 abbrev mutual

@@ -3,4 +3,5 @@ pub mod Pieces
 pub mod Steps
 pub mod Texts
 pub mod Programs
+pub mod Bytes
 pub mod Shared

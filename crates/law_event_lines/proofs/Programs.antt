@@ -26,10 +26,10 @@ use Rattle.law_calls.proofs.Shared.Systems.{thread_form, library-at, object-at, 
 use Rattle.law_calls.proofs.Shared.Threads.{unit_ops-at}
 use Rattle.law_calls.proofs.Shared.UnitRules.{ranges-kept}
 use Rattle.law_texts.proofs.Shared.LegibleUnits.{AreLegibleData, IsLegibleBlock, AreLegibleOperations, IsLegibleForm, IsLegibleUnit}
-use Rattle.law_told_events.proofs.Values.{HoldWords}
-use Rattle.law_told_events.proofs.Pieces.{FitBlock, FitCallee}
-use Rattle.law_told_events.proofs.Steps.{FitThread}
-use Rattle.law_told_events.proofs.Texts.{data-words, legible-words}
+use Rattle.law_event_lines.proofs.Values.{HoldWords}
+use Rattle.law_event_lines.proofs.Pieces.{FitBlock, FitCallee}
+use Rattle.law_event_lines.proofs.Steps.{FitThread}
+use Rattle.law_event_lines.proofs.Texts.{data-words, legible-words}
 
 -- a place at which something stands is below the length
 below : {A : Type 0} (xs : List A) (k : ℕ) (x : A) → slice_get xs k ≡ Some x → k < length xs

@@ -26,7 +26,7 @@ use Rattle.law_texts.proofs.Shared.LegibleObjects.{IsLegibleObject, objects-legi
 use Rattle.law_texts.proofs.Shared.LegibleTicks.{legible-in-ticks}
 use Rattle.law_texts.proofs.Shared.LegibleDesigns.{thread-named, request-in}
 use Rattle.law_traces.specs.Told.{IsPlain, HasPlainNames}
-use Rattle.law_plain_names.proofs.Bytes.{plain}
+use Rattle.law_event_lines.proofs.Bytes.{plain}
 
 abbrev AreNamed : List Signature → Type 0
 AreNamed hs = Each (λ h. is_word h.name ≡ true) hs

@@ -27,8 +27,8 @@ use Rattle.law_lists.proofs.Shared.Facts.{first-where}
 use Rattle.law_lists.proofs.Shared.Lists.{each-append}
 use Rattle.law_lists.proofs.Shared.Places.{all-at}
 use Rattle.law_traces.specs.Told.{IsTicks, IsWord, IsWordWhere, IsEvent}
-use Rattle.law_told_events.proofs.Values.{HoldWords, pick, kept-fits, parameter-fits}
-use Rattle.law_told_events.proofs.Pieces.{FitBlock, FitPieces, FitCallee, FitAct, block-fits, done-fits}
+use Rattle.law_event_lines.proofs.Values.{HoldWords, pick, kept-fits, parameter-fits}
+use Rattle.law_event_lines.proofs.Pieces.{FitBlock, FitPieces, FitCallee, FitAct, block-fits, done-fits}
 
 -- what holds of each still holds as one of them changes
 change-each : {A : Type 0} (P : A → Type 0) (i : ℕ) (f : A → A) (xs : List A) → ((x : A) → P x → P (f x)) → Each P xs → Each P (change i f xs)

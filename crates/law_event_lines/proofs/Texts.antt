@@ -18,8 +18,8 @@ use Rattle.law_lists.proofs.Shared.Lists.{IsIn, in-left, in-right}
 use Rattle.law_designs.proofs.Shared.Lists.{all-in}
 use Rattle.law_texts.proofs.Shared.LegibleUnits.{AreLegibleData, IsLegibleBlock}
 use Rattle.law_traces.specs.Told.{IsWord}
-use Rattle.law_told_events.proofs.Values.{HoldWords, FitExpression}
-use Rattle.law_told_events.proofs.Pieces.{FitStatement, FitBlock, FitBranches}
+use Rattle.law_event_lines.proofs.Values.{HoldWords, FitExpression}
+use Rattle.law_event_lines.proofs.Pieces.{FitStatement, FitBlock, FitBranches}
 
 -- numbers
 pub number-word : (n : ℕ) → is_number n ≡ true → IsWord n

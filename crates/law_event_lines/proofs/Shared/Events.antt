@@ -47,9 +47,9 @@ use Rattle.law_texts.proofs.Shared.LegibleObjects.{IsLegibleObject, objects-legi
 use Rattle.law_texts.proofs.Shared.LegibleTicks.{legible-in-ticks}
 use Rattle.law_texts.proofs.Shared.LegibleUnits.{IsLegibleUnit}
 use Rattle.law_traces.specs.Told.{IsWordWhere, IsEvent}
-use Rattle.law_told_events.proofs.Texts.{number-word}
-use Rattle.law_told_events.proofs.Steps.{TellsOf, rest-tells}
-use Rattle.law_told_events.proofs.Programs.{threads-fit, objects-fit, callees-fit}
+use Rattle.law_event_lines.proofs.Texts.{number-word}
+use Rattle.law_event_lines.proofs.Steps.{TellsOf, rest-tells}
+use Rattle.law_event_lines.proofs.Programs.{threads-fit, objects-fit, callees-fit}
 
 -- the values of requests from outside
 value-word : (v : Option ℕ) → ((n : ℕ) → v ≡ Some n → is_readable (token.Number n) ≡ true) → IsWordWhere v

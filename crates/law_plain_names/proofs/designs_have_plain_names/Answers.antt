@@ -1,5 +1,0 @@
-use Rattle.law_plain_names.proofs.Shared.Names.{design-plain}
-use Rattle.law_plain_names.proofs.designs_have_plain_names.Goals as goal
-
-pub returns : goal.returns
-returns c = λ x bytes reads met. design-plain x bytes reads met

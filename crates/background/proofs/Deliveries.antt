@@ -46,7 +46,7 @@ use Rattle.law_backgrounds.proofs.Shared.HardTicks.{ticks-hard}
 use Rattle.ods_tree.proofs.Shared.TickLaws.{ticks-version}
 use Rattle.ods_print.specs.Writable.{is_writable}
 use Rattle.rt_response.specs.Rounds.{IsMiss}
-use Rattle.law_background_texts.proofs.Shared.BackgroundTexts.{text-guaranteed}
+use Rattle.law_backgrounds.proofs.Shared.BackgroundTexts.{text-guaranteed}
 use Rattle.background.specs.Delivers.{DeliversBackground, IsRefusedInBackground, IsBackgroundOf, IsToldFirst}
 use Rattle.background.specs.Fronts.{front_rows, slow_requests}
 use Rattle.background.specs.Makes.{Makes, IsMade}

@@ -1,7 +1,7 @@
 //! The laws of two runs for designs with background objects, over definitions alone: one run makes the text of such a design, and one replays
 //! that text and never sees the design. No code runs here.
 //!
-//! They stand on `law_backgrounds`, which says of every such design that the runs of its program are right, on `law_background_texts`, which says
+//! They stand on `law_backgrounds`, which says of every such design that the runs of its program are right, on `law_backgrounds`, which says
 //! that its text is accepted as its program, and on `law_two_runs`, by which a text is accepted as one program alone.
 //!
 //! Other crates may cite these proofs of it (`proofs/Shared`):

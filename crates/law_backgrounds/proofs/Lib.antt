@@ -7,5 +7,6 @@ pub mod SlowPriorities
 pub mod LeastNumbers
 pub mod ClientStarts
 pub mod NoBackground
-pub mod Shared
 mod Worked
+pub mod LegibleHard
+pub mod Shared

@@ -1,6 +1,7 @@
 -- What other crates may cite of the proofs of this one.
 pub mod BackgroundPrograms
 pub mod BackgroundRuns
+pub mod BackgroundTexts
 pub mod FirstFaults
 pub mod HardObjects
 pub mod HardRanks

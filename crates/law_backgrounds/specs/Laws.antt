@@ -102,8 +102,8 @@ BackgroundReplaysAreRight limit =
     → PermitsBackground (in_ticks x) v (named_arrivals (background_program (in_ticks x)) r) (named (background_program (in_ticks x)) told)
 
 -- a text with the tokens of the program is guaranteed
-abbrev pub BackgroundTextsAreGuaranteed : ℕ → Type 0
-BackgroundTextsAreGuaranteed limit =
+abbrev pub BackgroundTokensAreGuaranteed : ℕ → Type 0
+BackgroundTokensAreGuaranteed limit =
     (x : Design) (text : List ℕ) (v : List Bound) → IsProperDesign (within_limits is_design_name) x → IsBackgroundDesign x
     → Fits (hard_rows (in_ticks x)) v
     → length text ≤ ada_limit → plain (tokens text) ≡ Ok (program_tokens (background_program (in_ticks x)))

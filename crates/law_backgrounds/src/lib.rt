@@ -17,6 +17,9 @@
 //! 4. The laws (`BackgroundRuns`), by `law_runs` for the tasks that stand in the table; that one fault comes first
 //!    (`FirstFaults`), that requests can be read off the table (`StarterRows`) and are those of the tree (`ClientStarts`), and that a design without
 //!    background objects keeps its text (`NoBackground`).
+//! 5. The text (`BackgroundTexts`). A text can hold each name and each number of such a design; those of its hard part are the same but for
+//!    the longest time (`LegibleHard`), and what is computed of them is in its range; so a text can hold each token of the program and each
+//!    comment at its head. It reads back as the design's program, and it is guaranteed.
 //!
 //! `Worked` is a design that meets all premises, with its bounds and a run.
 //!
@@ -26,6 +29,8 @@
 //!   and its hard threads stand in the first rows of the table.
 //! - `BackgroundRuns`: every run of the program of a design with background objects is right, where bounds fit the rows of its hard
 //!   threads.
+//! - `BackgroundTexts`: the text of a proper design with background objects that a text can hold: its tokens are those of the design's
+//!   program, so it is guaranteed.
 //! - `FirstFaults`: one fault of a design with background objects comes first, and none where the design passes all steps.
 //! - `HardObjects`: the terminal objects of the hard part of a design are those of the design, each as a hard one, in the same order.
 //! - `HardRanks`: the priorities of the hard part: those of clients are the least, as many as there are clients, and so the rows of the
@@ -42,8 +47,9 @@
 
 ghost use Rattle.law_backgrounds.specs.Laws.{RestlessTasksReturnAtOnce, FaultsAreOne, HardPartsAreInTicks, HardPartsAreSound, HardRowsAreTables};
 ghost use Rattle.law_backgrounds.specs.Laws.{RequestsAreByRows, RequestsAreByTree, BackgroundProgramsAreReadable, BackgroundDesignsAreRight};
-ghost use Rattle.law_backgrounds.specs.Laws.{BackgroundReplaysAreRight, BackgroundTextsAreGuaranteed, OwnTextsAreKept, OwnDesignsPass};
+ghost use Rattle.law_backgrounds.specs.Laws.{BackgroundReplaysAreRight, BackgroundTokensAreGuaranteed, OwnTextsAreKept, OwnDesignsPass};
 ghost use Rattle.std.specs.Prelude.{ℕ};
+ghost use Rattle.law_backgrounds.specs.TextLaws.{BackgroundTextsReadBack, BackgroundTextsAreGuaranteed};
 
 /// In every run without a stop, each cyclic task of offset 0 and period 1 is released at 0, and again at each instant at which it ends,
 /// and at no other time (ISO/IEC 8652:2012, D.9, `delay until` a time that is past).
@@ -104,8 +110,8 @@ pub fn background_replays_are_right()
 {}
 
 /// A text with the tokens of such a design's program, within the limit of bytes, is guaranteed for the design and those bounds.
-pub fn background_texts_are_guaranteed()
-    ensures { (limit : ℕ) → BackgroundTextsAreGuaranteed limit }
+pub fn background_tokens_are_guaranteed()
+    ensures { (limit : ℕ) → BackgroundTokensAreGuaranteed limit }
 {}
 
 /// A design that meets the rules has no background objects, and what is made of it here is what is made of it there: it is its own hard part,
@@ -117,4 +123,17 @@ pub fn own_texts_are_kept()
 /// Such a design is not refused, where none of its threads has the deadline of clients.
 pub fn own_designs_pass()
     ensures { OwnDesignsPass }
+{}
+
+/// The text of a proper design that a text can hold, is not refused and has bounds for its hard threads has the tokens of its program, in
+/// ticks.
+pub fn background_texts_read_back()
+    ensures { BackgroundTextsReadBack }
+{}
+
+/// Such a text is guaranteed for the design, in ticks, and its bounds, where it is within the limit of bytes.
+///
+/// `limit` is the farthest horizon allowed, in ticks.
+pub fn background_texts_are_guaranteed()
+    ensures { (limit : ℕ) → BackgroundTextsAreGuaranteed limit }
 {}

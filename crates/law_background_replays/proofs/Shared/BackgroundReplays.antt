@@ -24,7 +24,7 @@ use Rattle.background_designs.specs.Refusals.{IsBackgroundDesign}
 use Rattle.background_designs.specs.Programs.{background_program, background_text, hard_rows}
 use Rattle.background_designs.specs.Runs.{PermitsBackground}
 use Rattle.law_backgrounds.proofs.Shared.BackgroundRuns.{permitted}
-use Rattle.law_background_texts.proofs.Shared.BackgroundTexts.{text-guaranteed}
+use Rattle.law_backgrounds.proofs.Shared.BackgroundTexts.{text-guaranteed}
 
 pub right-replay : (limit : ℕ) (x : Design) (written : List ℕ) (v : List Bound) (p : Program) (r : Arrivals) (told : List Event)
     → IsProperDesign (within_limits is_design_name) x → IsBackgroundDesign x → Fits (hard_rows (in_ticks x)) v

@@ -1,5 +1,5 @@
-use Rattle.law_backgrounds.proofs.Shared.BackgroundRuns.{guaranteed}
+use Rattle.law_backgrounds.proofs.Shared.BackgroundTexts.{text-guaranteed}
 use Rattle.law_backgrounds.proofs.background_texts_are_guaranteed.Goals as goal
 
 pub returns : goal.returns
-returns c limit x text v proper passes fits within spelled = guaranteed limit x proper passes v fits text within spelled
+returns c limit x v proper writable passes fits short = text-guaranteed x proper writable passes v fits limit short

@@ -53,7 +53,7 @@ use Rattle.law_backgrounds.proofs.Shared.HardRanks.{clients-few}
 use Rattle.law_backgrounds.proofs.Shared.ProperHard.{hard-are-proper}
 use Rattle.law_backgrounds.proofs.Shared.BackgroundPrograms.{program-raised}
 use Rattle.law_backgrounds.proofs.Shared.BackgroundRuns.{quick, guaranteed, hard-table}
-use Rattle.law_background_texts.proofs.LegibleHard.{hard-are-legible, lift-legible}
+use Rattle.law_backgrounds.proofs.LegibleHard.{hard-are-legible, lift-legible}
 
 module _ (written : Design) (proper : IsProperDesign (within_limits is_design_name) written) (writable : design.is_writable written ≡ true)
     (passes : IsBackgroundDesign written) where

@@ -1,2 +1,0 @@
-pub mod LegibleHard
-pub mod Shared

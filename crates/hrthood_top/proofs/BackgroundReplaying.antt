@@ -1,7 +1,7 @@
 -- That the replay of a text that was made of a design with background objects is right.
 use Rattle.std.proofs.Common.{◌≡◌, ℕ, List, Some}
 use Rattle.arrivals_tree.specs.Arrived.{horizon_limit}
-use Rattle.law_background_replays.proofs.Shared.BackgroundReplays.{right-replay}
+use Rattle.law_replays.proofs.Shared.BackgroundReplays.{right-replay}
 use Rattle.hood_io.specs.Shelves.{Told}
 use Rattle.hrthood_words.specs.declared.verbs.DesignVerb.TheVariants.{Background}
 use Rattle.hrthood_words.specs.Words.{OnDesign, Replay}

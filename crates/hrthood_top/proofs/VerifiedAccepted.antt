@@ -17,7 +17,7 @@ use Rattle.hood_io.specs.Shelves.{Told}
 use Rattle.hood_io.specs.Sinks.{Appends}
 use Rattle.law_traces.specs.Told.{IsEvent}
 use Rattle.law_event_lines.proofs.Shared.Events.{design-events}
-use Rattle.law_two_runs.proofs.Shared.RightReplays.{right-replay}
+use Rattle.law_replays.proofs.Shared.RightReplays.{right-replay}
 use Rattle.hrthood_words.specs.Words.{Command, Verify, Accepts, command_of}
 use Rattle.hrthood_top.specs.declared.file_kind.FileKind.{FileKind}
 use Rattle.hrthood_top.specs.declared.file_kind.FileKind.TheVariants as kind

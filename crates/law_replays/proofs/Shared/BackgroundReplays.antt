@@ -19,7 +19,7 @@ use Rattle.rt_response.specs.declared.rows.Bound.{Bound}
 use Rattle.rt_response.specs.Response.{Fits}
 use Rattle.guarantee.specs.Events.{named}
 use Rattle.guarantee.specs.Arrivals.{named_arrivals}
-use Rattle.law_two_runs.proofs.Shared.OneProgram.{one_program}
+use Rattle.law_replays.proofs.Shared.OneProgram.{one_program}
 use Rattle.background_designs.specs.Refusals.{IsBackgroundDesign}
 use Rattle.background_designs.specs.Programs.{background_program, background_text, hard_rows}
 use Rattle.background_designs.specs.Runs.{PermitsBackground}

@@ -9,7 +9,7 @@ use Rattle.ada_tree.specs.Spelling.{program_tokens}
 use Rattle.ada_read.specs.Answers.{IsTextOf}
 use Rattle.ada_read.specs.Readers.{ada_block_at, program_at}
 use Rattle.ada_read.proofs.Shared.ReadingLaws.{reads-ada}
-use Rattle.law_two_runs.proofs.Answered.{ok_same}
+use Rattle.law_replays.proofs.Answered.{ok_same}
 
 -- the program that is found in tokens
 found : (p : Program) (ts : List Token) → IsTextOf p ts → program_at ada_block_at (ts ++ []) ≡ Ok (p, [])

@@ -32,7 +32,7 @@ use Rattle.law_runs.proofs.Shared.RankedRuns.{ranked-replays-are-right}
 use Rattle.law_texts.specs.Ranked.{text_by}
 use Rattle.law_texts.proofs.Shared.RankedTexts.{ranked-accepted}
 use Rattle.law_texts.proofs.Shared.WrittenTexts.{text-accepted}
-use Rattle.law_two_runs.proofs.Shared.OneProgram.{one_program}
+use Rattle.law_replays.proofs.Shared.OneProgram.{one_program}
 
 -- a trace of a program under arrivals that a design allows, in ticks, within these bounds by a ranking
 abbrev IsRightBy : Design → List ℕ → List Bound → Program → Arrivals → List Event → Type 0

@@ -1,17 +1,30 @@
-//! The laws of two runs for designs with background objects, over definitions alone: one run makes the text of such a design, and one replays
-//! that text and never sees the design. No code runs here.
+//! The laws of two runs, over definitions alone: one that makes the text of a design, and one that replays that text and never sees the
+//! design. No code runs here.
 //!
-//! They stand on `law_backgrounds`, which says of every such design that the runs of its program are right, on `law_backgrounds`, which says
-//! that its text is accepted as its program, and on `law_two_runs`, by which a text is accepted as one program alone.
+//! They stand on `law_runs`, which says of every design that the runs of its program are right, on `law_texts`, which says that the
+//! text of every design is accepted as its program, and on the reader of Ada texts, by which a text is accepted as one program alone. Each is
+//! the contract of a public function with an empty body. `generated_text_replays_right` carries the promise, and
+//! `arranged_text_replays_right` that of a text by any ranking of the design's threads.
+//!
+//! Of designs with background objects the same is said by `background_text_replays_right`. That their runs are right, and that their texts are
+//! accepted as their programs, is said by `law_backgrounds`.
 //!
 //! Other crates may cite these proofs of it (`proofs/Shared`):
 //!
 //! - `BackgroundReplays`: what is told by the program that a text is accepted as, where the text is that of a design with background
 //!   objects.
+//! - `OneProgram`: a text is accepted as one program.
+//! - `RightReplays`: what is told by the program that a text is accepted as, where the text is that of a design.
 #![tactic(auto)]
 
 ghost use Rattle.std.specs.Prelude.{ℕ};
-ghost use Rattle.law_background_replays.specs.Laws.{BackgroundReplayIsRight, BackgroundTextReplaysRight};
+ghost use Rattle.law_replays.specs.Laws.{BackgroundReplayIsRight, BackgroundTextReplaysRight};
+
+mod replays;
+
+pub use replays::{
+    arranged_text_replays_right, generated_text_replays_right, replay_is_right, replay_serves,
+};
 
 /// What a replay tells of a text that is accepted as the program of a design with background objects is permitted by the design, within the
 /// bounds of its hard threads.

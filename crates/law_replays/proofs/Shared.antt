@@ -1,2 +1,4 @@
 -- What other crates may cite of the proofs of this one.
 pub mod BackgroundReplays
+pub mod OneProgram
+pub mod RightReplays

@@ -1,5 +1,0 @@
-use Rattle.law_background_replays.proofs.Shared.BackgroundReplays.{right-text}
-use Rattle.law_background_replays.proofs.background_text_replays_right.Goals as goal
-
-pub returns : goal.returns
-returns c = right-text

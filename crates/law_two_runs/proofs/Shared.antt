@@ -1,3 +1,0 @@
--- What other crates may cite of the proofs of this one.
-pub mod OneProgram
-pub mod RightReplays

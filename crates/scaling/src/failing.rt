@@ -14,7 +14,7 @@ use analysis::Ranking;
 use design_bounds::{NoBounds, bounds_of};
 use ods_tree::Flat;
 use rt_block::{Facts, facts_of, part_costs, table};
-use scaled_copies::scaled;
+use crate::entries::scaled;
 use seq_tree::{Name, NoMemory};
 use std::alloc::Global;
 

@@ -2,7 +2,7 @@
 use Rattle.std.proofs.Common.{◌≡◌, ℕ, true, List, [], ◌∷◌, Option, Some, None, refl, ap, sym, subst, ◌∙◌}
 use Rattle.std.specs.Prelude.{slice_get}
 use Rattle.seq_tree.specs.Names.{Name}
-use Rattle.linked.specs.Slots.{vars_at}
+use Rattle.linker.specs.Slots.{vars_at}
 use Rattle.linker.specs.Scopes.{slots_of}
 use Rattle.linker.specs.Standing.{Lists, lists_of}
 use Rattle.linker.specs.declared.code.Ins.{Ins}

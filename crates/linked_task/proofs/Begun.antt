@@ -4,7 +4,7 @@ use Rattle.std.specs.Prelude.{drop, slice_get, take}
 use Rattle.seq_tree.specs.Values.{handed}
 use Rattle.seq_tree.specs.Variables.{Variables, entered, written}
 use Rattle.machine.specs.Pieces.{pieces}
-use Rattle.linked.specs.Slots.{vars_at}
+use Rattle.linker.specs.Slots.{vars_at}
 use Rattle.linker.specs.Callees.{OpBody, body_of}
 use Rattle.linker.specs.Programs.{op_part}
 use Rattle.linker.specs.Scopes.{slots_of}

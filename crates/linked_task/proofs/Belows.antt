@@ -6,7 +6,7 @@ use Rattle.seq_tree.specs.Names.{Name}
 use Rattle.seq_tree.specs.Variables.{Variables}
 use Rattle.machine.specs.Systems.{System}
 use Rattle.law_flat_code.specs.Codes.{next_slot}
-use Rattle.linked.specs.Slots.{AreSlots, slot_at, vars_at}
+use Rattle.linker.specs.Slots.{AreSlots, slot_at, vars_at}
 use Rattle.linker.specs.Leads.{Leads}
 use Rattle.linker.specs.Standing.{Lists}
 use Rattle.linker.specs.declared.code.Ins.{Ins}

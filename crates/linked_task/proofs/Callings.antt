@@ -12,7 +12,7 @@ use Rattle.seq_tree.specs.declared.tree.Param.{Param}
 use Rattle.machine.specs.Pieces.{Piece, Calling}
 use Rattle.machine.specs.Systems.{System, CallTarget, Plain, Protected, ProtectedUnit, Request, Unknown, callee}
 use Rattle.law_flat_code.specs.Codes.{block_size}
-use Rattle.linked.specs.Slots.{vars_at}
+use Rattle.linker.specs.Slots.{vars_at}
 use Rattle.linker.specs.Callees.{OpBody, body_of}
 use Rattle.linker.specs.Programs.{datum_names, op_part, param_names}
 use Rattle.linker.specs.Scopes.{slots_of}

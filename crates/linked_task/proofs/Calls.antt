@@ -14,7 +14,7 @@ use Rattle.machine.specs.Pieces.{Calling}
 use Rattle.machine.specs.Systems.{System, CallTarget, Plain, Protected, Unknown, callee}
 use Rattle.machine.specs.Systems as to
 use Rattle.law_flat_code.specs.Codes.{BodyStands, block_size}
-use Rattle.linked.specs.declared.code.Operand.{Operand}
+use Rattle.linker.specs.declared.nodes.Operand.{Operand}
 use Rattle.linker.specs.Callees.{IsLed, IsSystemOf, OpBody, body_of}
 use Rattle.linker.specs.Leads.{Leads, Body, Request, Nowhere}
 use Rattle.linker.specs.Programs.{datum_names, op_part, param_names}

@@ -12,7 +12,7 @@ use Rattle.seq_tree.specs.declared.tree.Datum.{Datum}
 use Rattle.seq_tree.specs.declared.tree.Mode.{Mode}
 use Rattle.seq_tree.specs.declared.tree.Mode.TheVariants.{In, Out}
 use Rattle.seq_tree.specs.declared.tree.Param.{Param}
-use Rattle.linked.specs.Slots.{slot_at, vars_at}
+use Rattle.linker.specs.Slots.{slot_at, vars_at}
 use Rattle.linker.specs.Programs.{datum_names, param_names}
 use Rattle.linker.specs.Scopes.{slots_of}
 

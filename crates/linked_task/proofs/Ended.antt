@@ -7,8 +7,8 @@ use Rattle.seq_tree.specs.Operations.{out_names}
 use Rattle.seq_tree.specs.Variables.{Variables, reads, stored, targets}
 use Rattle.law_flat_code.specs.Codes.{next_slot}
 use Rattle.law_flat_code.specs.Following.{AgreeBelow}
-use Rattle.linked.specs.Slots.{set_all, vars_at}
-use Rattle.linked.proofs.Shared.Placing.{stores}
+use Rattle.linker.specs.Slots.{set_all, vars_at}
+use Rattle.linker.proofs.Shared.Placing.{stores}
 use Rattle.linker.specs.Callees.{body_of}
 use Rattle.linker.specs.Programs.{op_part}
 use Rattle.linker.specs.Scopes.{slots_of}

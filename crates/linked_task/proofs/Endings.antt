@@ -14,7 +14,7 @@ use Rattle.seq_tree.specs.declared.tree.Param.{Param}
 use Rattle.machine.specs.Pieces.{Piece, Closing}
 use Rattle.machine.specs.Systems.{System, ProtectedUnit, callee}
 use Rattle.law_flat_code.specs.Codes.{next_slot}
-use Rattle.linked.specs.Slots.{set_all, vars_at}
+use Rattle.linker.specs.Slots.{set_all, vars_at}
 use Rattle.linker.specs.Callees.{OpBody, body_of}
 use Rattle.linker.specs.Programs.{datum_names, op_part, param_names}
 use Rattle.linker.specs.Scopes.{slots_of}

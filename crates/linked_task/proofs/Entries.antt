@@ -6,7 +6,7 @@ use Rattle.machine.specs.Pieces.{pieces}
 use Rattle.law_flat_code.specs.Codes.{block_size}
 use Rattle.law_flat_code.specs.Withins.{scope_within, within}
 use Rattle.law_flat_code.proofs.Shared.Begins.{begins_within, scope_begins}
-use Rattle.linked.specs.Slots.{vars_at}
+use Rattle.linker.specs.Slots.{vars_at}
 use Rattle.linker.specs.Callees.{body_of}
 use Rattle.linker.specs.Scopes.{slots_of}
 use Rattle.linker.specs.Standing.{lists_of}

@@ -5,7 +5,7 @@ use Rattle.std.proofs.lemmas.List.{length-map, length-take, take_more}
 use Rattle.std.proofs.lemmas.List.Sums.{fold-append}
 use Rattle.seq_tree.specs.Names.{Name}
 use Rattle.seq_tree.specs.Variables.{Variables}
-use Rattle.linked.specs.Slots.{vars_at}
+use Rattle.linker.specs.Slots.{vars_at}
 use Rattle.linker.specs.Scopes.{slots_of}
 use Rattle.task_runtime.specs.Fitting.{names_of}
 use Rattle.task_runtime.specs.Stacked.{vars_of, with_var}

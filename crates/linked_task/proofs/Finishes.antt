@@ -8,7 +8,7 @@ use Rattle.machine.specs.Pieces as pieces
 use Rattle.law_flat_code.specs.Codes.{block_size}
 use Rattle.law_flat_code.specs.Withins.{scope_within, within}
 use Rattle.law_flat_code.proofs.Shared.Ends.{block_ends, scope_ends}
-use Rattle.linked.specs.Slots.{vars_at}
+use Rattle.linker.specs.Slots.{vars_at}
 use Rattle.linker.specs.Programs.{param_names}
 use Rattle.linker.specs.Scopes.{slots_of}
 use Rattle.linker.specs.Standing.{lists_of}

@@ -17,7 +17,7 @@ use Rattle.law_flat_code.specs.Codes.{block_size}
 use Rattle.law_flat_code.specs.Following.{LeftAt}
 use Rattle.law_flat_code.specs.Withins.{within}
 use Rattle.law_flat_code.proofs.Shared.Ends.{block_ends}
-use Rattle.linked.specs.declared.code.Operand.{Operand}
+use Rattle.linker.specs.declared.nodes.Operand.{Operand}
 use Rattle.linker.specs.Callees.{OpBody, body_of}
 use Rattle.linker.specs.Leads as leads
 use Rattle.linker.specs.Leads.{Leads}

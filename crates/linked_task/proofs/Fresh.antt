@@ -4,7 +4,7 @@ use Rattle.ada_tree.specs.Trees.{unit_of}
 use Rattle.machine.specs.Pieces as pieces
 use Rattle.machine.specs.Releases.{parameter}
 use Rattle.machine.specs.Systems.{System}
-use Rattle.linked.specs.Slots.{vars_at}
+use Rattle.linker.specs.Slots.{vars_at}
 use Rattle.linker.specs.Programs.{AreLinked, task_part}
 use Rattle.linker.specs.Scopes.{slots_of}
 use Rattle.linker.specs.Standing.{lists_of}

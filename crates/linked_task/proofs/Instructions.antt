@@ -11,7 +11,7 @@ use Rattle.law_flat_code.specs.Codes as flat
 use Rattle.law_flat_code.specs.Codes.{next_slot}
 use Rattle.law_flat_code.specs.Following.{Follows, Goes, LeftAt, View}
 use Rattle.law_flat_code.specs.Levels.{BeginsAt, EndsAt, FollowsAt, Shows}
-use Rattle.linked.specs.declared.code.Operand.{Operand}
+use Rattle.linker.specs.declared.nodes.Operand.{Operand}
 use Rattle.linker.specs.Leads.{Leads, Body, Request, Nowhere}
 use Rattle.linker.specs.Standing.{CallStands, Has, Lists, Reads, target_slot}
 use Rattle.linker.specs.declared.code.Ins.{Ins}

@@ -14,8 +14,8 @@ use Rattle.machine.specs.Pieces.{Piece, Calling}
 use Rattle.machine.specs.Deeds as deeds
 use Rattle.machine.specs.Deeds.{called, deed, done}
 use Rattle.law_flat_code.specs.Codes.{block_size}
-use Rattle.linked.specs.Slots.{slot_at, vars_at}
-use Rattle.linked.specs.declared.code.Operand.{Operand}
+use Rattle.linker.specs.Slots.{slot_at, vars_at}
+use Rattle.linker.specs.declared.nodes.Operand.{Operand}
 use Rattle.linker.specs.Callees.{body_of}
 use Rattle.linker.specs.Leads as leads
 use Rattle.linker.specs.Leads.{Leads}

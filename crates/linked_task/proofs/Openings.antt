@@ -8,8 +8,8 @@ use Rattle.seq_tree.specs.declared.tree.Datum.{Datum}
 use Rattle.seq_tree.specs.declared.tree.Mode.TheVariants.{In, Out}
 use Rattle.seq_tree.specs.declared.tree.Param.{Param}
 use Rattle.seq_tree.proofs.Shared.LoopSteps.{drop_step}
-use Rattle.linked.specs.Slots.{vars_at}
-use Rattle.linked.proofs.Shared.Placing.{named}
+use Rattle.linker.specs.Slots.{vars_at}
+use Rattle.linker.proofs.Shared.Placing.{named}
 use Rattle.linker.specs.Programs.{datum_names, param_names}
 use Rattle.linker.specs.Scopes.{slots_of}
 use Rattle.linker.proofs.Shared.BodySlots.{body_slots}

@@ -13,10 +13,10 @@ use Rattle.seq_tree.specs.declared.tree.Datum.{Datum}
 use Rattle.seq_tree.specs.declared.tree.Mode.{Mode}
 use Rattle.seq_tree.specs.declared.tree.Mode.TheVariants.{In, Out}
 use Rattle.seq_tree.specs.declared.tree.Param.{Param}
-use Rattle.linked.specs.Nodes.{Links}
-use Rattle.linked.specs.Slots.{set_all, slot_at, vars_at}
-use Rattle.linked.specs.declared.code.Operand.{Operand}
-use Rattle.linked.specs.declared.code.Operand.TheVariants as operand
+use Rattle.linker.specs.Nodes.{Links}
+use Rattle.linker.specs.Slots.{set_all, slot_at, vars_at}
+use Rattle.linker.specs.declared.nodes.Operand.{Operand}
+use Rattle.linker.specs.declared.nodes.Operand.TheVariants as operand
 use Rattle.linker.specs.Programs.{datum_names}
 use Rattle.linker.specs.Scopes.{slots_of}
 use Rattle.linker.specs.Standing.{Lists, TargetsStand, ValuesStand, first_or_0, in_by, target_slot, values_in}

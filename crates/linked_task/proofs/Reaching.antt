@@ -4,7 +4,7 @@ use Rattle.std.specs.Prelude.{IfSome, option_map, slice_get}
 use Rattle.std.proofs.lemmas.Option.{same_Some, slice_get-map}
 use Rattle.seq_tree.specs.Names.{Name}
 use Rattle.machine.specs.Systems.{CallTarget, Plain, Protected, ProtectedUnit, Request, Unknown, callee}
-use Rattle.linked.specs.declared.code.Operand.{Operand}
+use Rattle.linker.specs.declared.nodes.Operand.{Operand}
 use Rattle.linker.specs.Callees.{OpBody, body_of}
 use Rattle.linker.specs.Programs.{datum_names}
 use Rattle.linker.specs.Standing.{lists_of}

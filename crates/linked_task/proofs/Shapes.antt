@@ -13,8 +13,8 @@ use Rattle.law_flat_code.specs.Codes.{in_turn, next_slot}
 use Rattle.law_flat_code.specs.Following.{AgreeBelow}
 use Rattle.law_flat_code.specs.Withins.{scope_within}
 use Rattle.law_flat_code.proofs.Shared.Scoping.{holds_within}
-use Rattle.linked.specs.Slots.{AreSlots, slot_at}
-use Rattle.linked.proofs.Shared.Writing.{lower}
+use Rattle.linker.specs.Slots.{AreSlots, slot_at}
+use Rattle.linker.proofs.Shared.Writing.{lower}
 use Rattle.linker.specs.Scopes.{slots_of}
 use Rattle.linker.specs.Standing.{target_slot}
 use Rattle.linker.proofs.Shared.BodySlots.{body_slots}

@@ -8,9 +8,9 @@ use Rattle.seq_tree.specs.Expressions.{Expression}
 use Rattle.seq_tree.specs.Variables.{Variables}
 use Rattle.seq_tree.specs.declared.tree.Mode.TheVariants.{In, Out}
 use Rattle.seq_tree.specs.declared.tree.Param.{Param}
-use Rattle.linked.specs.Nodes.{IsBelow}
-use Rattle.linked.specs.Slots.{set_all, vars_at}
-use Rattle.linked.specs.declared.code.Operand.{Operand}
+use Rattle.linker.specs.Nodes.{IsBelow}
+use Rattle.linker.specs.Slots.{set_all, vars_at}
+use Rattle.linker.specs.declared.nodes.Operand.{Operand}
 use Rattle.linker.specs.Standing.{Lists, ValuesStand, first_or_0, in_by, values_in}
 use Rattle.linked_task.specs.Handing.{ValuesAt, target_slots, values_of}
 use Rattle.linked_task.proofs.Passing.{in_stand}

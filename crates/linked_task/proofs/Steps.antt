@@ -19,10 +19,10 @@ use Rattle.law_flat_code.specs.Levels.{Levelled}
 use Rattle.law_flat_code.specs.Withins.{scope_within, within}
 use Rattle.law_flat_code.proofs.Shared.Ends.{block_ends}
 use Rattle.law_flat_code.proofs.Shared.Follows.{levels_block}
-use Rattle.linked.specs.Slots.{slot_at, vars_at}
-use Rattle.linked.specs.declared.code.Operand.{Operand}
-use Rattle.linked.proofs.Shared.Placing.{named, writes}
-use Rattle.linked.proofs.Shared.Writing.{below, lower, set_here}
+use Rattle.linker.specs.Slots.{slot_at, vars_at}
+use Rattle.linker.specs.declared.nodes.Operand.{Operand}
+use Rattle.linker.proofs.Shared.Placing.{named, writes}
+use Rattle.linker.proofs.Shared.Writing.{below, lower, set_here}
 use Rattle.linker.specs.Leads.{Leads}
 use Rattle.linker.specs.Scopes.{slots_of}
 use Rattle.linker.specs.Standing.{Has, Lists, Reads}

@@ -7,7 +7,7 @@ use Rattle.std.proofs.lemmas.List.{length-set, length-take-le, replicate-append-
 use Rattle.std.proofs.Math.Seq.{set-append_seam, take-add}
 use Rattle.std.proofs.lemmas.Option.{unwrap_or-slice_get}
 use Rattle.seq_tree.specs.Variables.{Variables}
-use Rattle.linked.specs.Slots.{slot_at, vars_at}
+use Rattle.linker.specs.Slots.{slot_at, vars_at}
 use Rattle.linked_task.specs.Slotted.{Slotted, slotted, with_zeros}
 
 abbrev zeros : ℕ → List ℕ

@@ -10,7 +10,7 @@ use Rattle.seq_tree.specs.declared.tree.Datum.{Datum}
 use Rattle.seq_tree.specs.declared.tree.OpName.{OpName}
 use Rattle.machine.specs.Pieces.{Piece, Calling, Closing, Finishing, Returning}
 use Rattle.law_flat_code.specs.Withins.{scope_within, within}
-use Rattle.linked.specs.Slots.{slot_at, vars_at}
+use Rattle.linker.specs.Slots.{slot_at, vars_at}
 use Rattle.linker.specs.Callees.{OpBody, body_of}
 use Rattle.linker.specs.Programs.{op_part, task_part}
 use Rattle.linker.specs.Scopes.{slots_of}

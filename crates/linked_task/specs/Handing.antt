@@ -6,8 +6,8 @@ use Rattle.seq_tree.specs.Values.{value}
 use Rattle.seq_tree.specs.Variables.{Variables}
 use Rattle.seq_tree.specs.declared.tree.Param.{Param}
 use Rattle.law_flat_code.specs.Codes.{next_slot}
-use Rattle.linked.specs.Slots.{AreSlots, vars_at}
-use Rattle.linked.specs.declared.code.Operand.{Operand}
+use Rattle.linker.specs.Slots.{AreSlots, vars_at}
+use Rattle.linker.specs.declared.nodes.Operand.{Operand}
 use Rattle.linker.specs.Standing.{Lists, Reads, TargetsStand, ValuesStand, target_slot, values_in}
 
 -- operands stand from a place on for the actuals that are handed in for these parameters

@@ -3,7 +3,7 @@ use Rattle.std.specs.Prelude.{ℕ, true, false, List, [], ◌∷◌, Option, Som
 use Rattle.seq_tree.specs.Names.{Name}
 use Rattle.seq_tree.specs.Variables.{Variables}
 use Rattle.machine.specs.Pieces as pieces
-use Rattle.linked.specs.Slots.{vars_at}
+use Rattle.linker.specs.Slots.{vars_at}
 use Rattle.linker.specs.Scopes.{slots_of}
 use Rattle.task_runtime.specs.Written.{data_names}
 use Rattle.linked_task.specs.Bodies.{Body, first_body, left_at, running, vars_here}

@@ -1,7 +1,7 @@
 ghost use Rattle.std.specs.Prelude.{◌≡◌, ◌+◌, ◌≤◌, ◌++◌, List, length};
 ghost use Rattle.seq_tree.specs.Names.{Name as NameBytes};
 ghost use Rattle.seq_tree.specs.Variables.{entered, written};
-ghost use Rattle.linked.specs.Slots.{vars_at};
+ghost use Rattle.linker.specs.Slots.{vars_at};
 ghost use Rattle.linker.specs.Programs.{datum_names, param_names};
 ghost use Rattle.linker.specs.Scopes.{slots_of};
 ghost use Rattle.task_runtime.specs.Fitting.{names_of};

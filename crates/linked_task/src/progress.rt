@@ -31,7 +31,7 @@ use crate::piece::{Deed, Entry, Frame, Piece, Request};
 use crate::reserve::Room;
 use crate::settle::settled;
 use crate::stack::Stack;
-use linked::Operand;
+use linker::Operand;
 use linker::{Ins, LinkedUnits};
 use seq_tree::{Costs, NoMemory};
 use std::alloc::Global;

@@ -1,6 +1,6 @@
 ghost use Rattle.std.specs.Prelude.{◌≡◌, ◌-◌, ◌<◌, ◌≤◌, ◌^◌, ◌++◌, [], drop, length, replicate, set, take, vec_capacity, IfOk};
 ghost use Rattle.seq_tree.specs.Variables.{Variables};
-ghost use Rattle.linked.specs.Slots.{slot_at, vars_at};
+ghost use Rattle.linker.specs.Slots.{slot_at, vars_at};
 ghost use Rattle.linked_task.specs.Slotted.{with_zeros};
 
 use seq_tree::NoMemory;

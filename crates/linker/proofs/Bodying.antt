@@ -5,7 +5,7 @@ use Rattle.std.specs.Prelude.{slice_get}
 use Rattle.seq_tree.specs.Names.{Name}
 use Rattle.seq_tree.specs.Statements.{Statements}
 use Rattle.seq_tree.specs.Variables.{Variables}
-use Rattle.linked.proofs.Shared.Growths.{grows_none, grows_twice}
+use Rattle.linker.proofs.Shared.Growths.{grows_none, grows_twice}
 use Rattle.law_flat_code.specs.Codes.{block_size}
 use Rattle.linker.specs.Bodies.{LinksBody, Roomed}
 use Rattle.linker.specs.Leads.{Leads}

@@ -6,10 +6,10 @@ use Rattle.seq_tree.specs.Expressions.{Expression, Number, Variable, Paren, Not,
 use Rattle.seq_tree.specs.Variables.{Variables, target_by}
 use Rattle.seq_tree.specs.declared.tree.Mode.{Mode}
 use Rattle.seq_tree.specs.declared.tree.Mode.TheVariants.{In, Out}
-use Rattle.linked.specs.Nodes.{Grows}
-use Rattle.linked.specs.declared.code.Operand.{Operand}
-use Rattle.linked.specs.declared.code.Operand.TheVariants as operand
-use Rattle.linked.proofs.Shared.Growths.{grows_none, grows_twice}
+use Rattle.linker.specs.Nodes.{Grows}
+use Rattle.linker.specs.declared.nodes.Operand.{Operand}
+use Rattle.linker.specs.declared.nodes.Operand.TheVariants as operand
+use Rattle.linker.proofs.Shared.Growths.{grows_none, grows_twice}
 use Rattle.linker.specs.Leads.{Leads, Body, Request, Nowhere}
 use Rattle.linker.specs.Linking.{Added, Longer}
 use Rattle.linker.specs.Standing.{AddsTarget, AddsValue, CallStands, Lists, Reads, TargetsStand, ValuesStand, in_by, target_slot}

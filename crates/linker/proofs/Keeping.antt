@@ -9,9 +9,9 @@ use Rattle.std.proofs.Math.Seq.{get_or-append_seam}
 use Rattle.seq_tree.specs.Expressions.{Expression}
 use Rattle.seq_tree.specs.Values.{is_boolean}
 use Rattle.seq_tree.specs.Variables.{Variables}
-use Rattle.linked.specs.Nodes.{Grows}
-use Rattle.linked.specs.declared.code.Operand.{Operand}
-use Rattle.linked.proofs.Shared.Growths.{grows_none, grows_twice, linked_grown}
+use Rattle.linker.specs.Nodes.{Grows}
+use Rattle.linker.specs.declared.nodes.Operand.{Operand}
+use Rattle.linker.proofs.Shared.Growths.{grows_none, grows_twice, linked_grown}
 use Rattle.linker.specs.Linking.{Added, Filled, Fills, Keeps, Longer}
 use Rattle.linker.specs.Standing.{Lists, Reads}
 use Rattle.linker.specs.declared.code.Ins.{Ins}

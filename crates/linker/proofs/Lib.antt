@@ -1,4 +1,3 @@
-pub mod Shared
 pub mod Keeping
 pub mod Scoping
 pub mod Entering
@@ -11,3 +10,6 @@ pub mod LinkSteps
 pub mod Counting
 pub mod Naming
 pub mod Examples
+pub mod SlotReads
+pub mod Reaches
+pub mod Shared

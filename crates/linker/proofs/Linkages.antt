@@ -5,9 +5,9 @@ use Rattle.seq_tree.specs.Names.{Name}
 use Rattle.seq_tree.specs.Expressions.{Expression}
 use Rattle.seq_tree.specs.Statements.{Statement, Statements, Branches, If, For, End, Then, Nothing, Else, When}
 use Rattle.seq_tree.specs.Variables.{Variables}
-use Rattle.linked.specs.Nodes.{Grows}
-use Rattle.linked.specs.declared.code.Operand.{Operand}
-use Rattle.linked.proofs.Shared.Growths.{grows_twice}
+use Rattle.linker.specs.Nodes.{Grows}
+use Rattle.linker.specs.declared.nodes.Operand.{Operand}
+use Rattle.linker.proofs.Shared.Growths.{grows_twice}
 use Rattle.law_flat_code.specs.Codes.{Stands, BlockStands, BranchesStand, size, block_size, branch_size, in_turn, next_slot}
 use Rattle.linker.specs.Leads.{Leads}
 use Rattle.linker.specs.Linking.{Added, Filled, Fills, LinksBlock, LinksBranches, LinksStatement, Longer}

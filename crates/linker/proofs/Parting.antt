@@ -5,8 +5,8 @@ use Rattle.std.proofs.lemmas.List.{drop_all}
 use Rattle.std.proofs.lemmas.Option.{slice_get_within}
 use Rattle.seq_tree.proofs.Shared.LoopSteps.{drop_step}
 use Rattle.seq_tree.specs.Names.{Name}
-use Rattle.linked.specs.Nodes.{AreOrdered, Grows}
-use Rattle.linked.proofs.Shared.Growths.{grows_none, grows_twice}
+use Rattle.linker.specs.Nodes.{AreOrdered, Grows}
+use Rattle.linker.proofs.Shared.Growths.{grows_none, grows_twice}
 use Rattle.linker.specs.Bodies.{LinksBody}
 use Rattle.linker.specs.Callees.{body_of}
 use Rattle.linker.specs.Leads.{Leads}

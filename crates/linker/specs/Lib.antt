@@ -7,3 +7,5 @@ pub mod Bodies
 pub mod Callees
 pub mod Programs
 pub mod Parts
+pub mod Slots
+pub mod Nodes

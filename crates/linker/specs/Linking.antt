@@ -4,8 +4,8 @@ use Rattle.std.specs.Prelude.{◌≡◌, ◌≤◌, ◌<◌, ◌⊎◌, ◌+◌,
 use Rattle.seq_tree.specs.Names.{Name}
 use Rattle.seq_tree.specs.Statements.{Statement, Statements, Branches}
 use Rattle.seq_tree.specs.Variables.{Variables}
-use Rattle.linked.specs.Nodes.{Grows}
-use Rattle.linked.specs.declared.code.Operand.{Operand}
+use Rattle.linker.specs.Nodes.{Grows}
+use Rattle.linker.specs.declared.nodes.Operand.{Operand}
 use Rattle.law_flat_code.specs.Codes.{BlockStands, BranchesStand, Stands, size, block_size, branch_size}
 use Rattle.linker.specs.Leads.{Leads}
 use Rattle.linker.specs.declared.code.Ins.{Ins}

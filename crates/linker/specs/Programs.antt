@@ -8,7 +8,7 @@ use Rattle.seq_tree.specs.declared.tree.Datum.{Datum}
 use Rattle.seq_tree.specs.declared.tree.Param.{Param}
 use Rattle.ada_tree.specs.Programs.{Unit}
 use Rattle.machine.specs.Systems.{System, TaskUnit, callee, request_params}
-use Rattle.linked.specs.Nodes.{AreOrdered}
+use Rattle.linker.specs.Nodes.{AreOrdered}
 use Rattle.law_flat_code.specs.Codes.{BodyStands, TaskStands}
 use Rattle.linker.specs.Callees.{IsLed, IsSystemOf, OpBody, body_of}
 use Rattle.linker.specs.Leads.{Leads}

@@ -8,10 +8,10 @@ use Rattle.seq_tree.specs.declared.tree.Mode.{Mode}
 use Rattle.seq_tree.specs.declared.tree.Mode.TheVariants.{In, Out}
 use Rattle.seq_tree.specs.declared.tree.Param.{Param}
 use Rattle.seq_eval.specs.Lookups.{found}
-use Rattle.linked.specs.Nodes.{IsBelow, Links}
-use Rattle.linked.specs.declared.code.Node.{Node}
-use Rattle.linked.specs.declared.code.Operand.{Operand}
-use Rattle.linked.specs.declared.code.Operand.TheVariants as operand
+use Rattle.linker.specs.Nodes.{IsBelow, Links}
+use Rattle.linker.specs.declared.nodes.Node.{Node}
+use Rattle.linker.specs.declared.nodes.Operand.{Operand}
+use Rattle.linker.specs.declared.nodes.Operand.TheVariants as operand
 use Rattle.law_flat_code.specs.Codes.{Code, next_slot}
 use Rattle.law_flat_code.specs.Codes as flat
 use Rattle.linker.specs.Leads.{Leads, Body, Request, Nowhere}

@@ -11,7 +11,7 @@ use crate::code::Code;
 use crate::fill::{add_expr, narrow};
 use crate::plain::slot_of;
 use crate::scope::Scope;
-use linked::Operand;
+use crate::nodes::Operand;
 use seq_tree::{Expr, Mode, NoMemory, Param};
 
 /// The place behind the last of the actuals. The one error is that no number tells it.

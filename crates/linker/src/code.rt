@@ -1,6 +1,6 @@
 ghost use Rattle.std.specs.Prelude.{◌≡◌, []};
 
-use linked::{Node, Operand};
+use crate::nodes::{Node, Operand};
 use std::alloc::Global;
 
 /// An instruction, of 16 bytes. Places are those of instructions, slots those of variables.

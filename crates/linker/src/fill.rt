@@ -5,7 +5,8 @@ ghost use Rattle.linker.specs.Standing.{Reads, lists_of};
 
 use crate::code::{Code, Ins};
 use crate::scope::Scope;
-use linked::{Operand, link_expr};
+use crate::expressions::link_expr;
+use crate::nodes::Operand;
 use seq_tree::{Expr, NoMemory};
 
 /// The place before this one. The one error is that there is none.

@@ -11,7 +11,7 @@ use Rattle.seq_tree.specs.declared.tree.Mode.TheVariants.{In, Out}
 use Rattle.seq_tree.specs.declared.tree.Param.{Param}
 use Rattle.machine.specs.Releases.{parameter}
 use Rattle.machine.specs.Systems.{ReleasePattern, Periodic, Requested, request_params}
-use Rattle.linked.specs.Slots.{AreSlots, slot_at, vars_at}
+use Rattle.linker.specs.Slots.{AreSlots, slot_at, vars_at}
 use Rattle.linker.specs.Callees.{OpBody}
 use Rattle.linker.specs.Programs.{datum_names, op_part, param_names}
 use Rattle.linker.specs.Scopes.{slots_of}

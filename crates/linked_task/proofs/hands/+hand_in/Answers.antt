@@ -2,8 +2,8 @@ use Rattle.std.proofs.Common.{◌≡◌, List, [], ◌∷◌, length, ap, refl, 
 use Rattle.std.proofs.lemmas.List.{length-append}
 use Rattle.std.proofs.lemmas.Option.{slice_get_read}
 use Rattle.seq_tree.specs.Values.{value}
-use Rattle.linked.specs.Nodes.{IsBelow, Links}
-use Rattle.linked.specs.declared.code.Node.{Node}
+use Rattle.linker.specs.Nodes.{IsBelow, Links}
+use Rattle.linker.specs.declared.nodes.Node.{Node}
 use Rattle.linker.specs.Standing.{lists_of}
 use Rattle.linked_task.proofs.Passing.{hand_step, values_here, values_next}
 use Rattle.linked_task.proofs.Skips.{hand_none, past_step, value_below, values_past}

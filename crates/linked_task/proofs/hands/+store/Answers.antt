@@ -2,8 +2,8 @@ use Rattle.std.proofs.Common.{◌≡◌, ℕ, ◌<◌, List, get_or, ◌∷◌, 
 use Rattle.std.specs.Prelude.{slice_get}
 use Rattle.std.proofs.lemmas.List.{length-set}
 use Rattle.std.proofs.lemmas.Option.{slice_get_read}
-use Rattle.linked.specs.declared.code.Operand.{Operand}
-use Rattle.linked.specs.declared.code.Operand.TheVariants as operand
+use Rattle.linker.specs.declared.nodes.Operand.{Operand}
+use Rattle.linker.specs.declared.nodes.Operand.TheVariants as operand
 use Rattle.linker.specs.Standing.{lists_of}
 use Rattle.linked_task.proofs.Passing.{is_target, none_stored, store_step, target_fits, target_there, targets_next}
 use Rattle.linked_task.proofs.Skips.{none_targeted}

@@ -1,7 +1,7 @@
 use Rattle.std.proofs.Common.{◌≡◌, ◌∙◌, sym, ap, arith}
 use Rattle.std.specs.Prelude.{drop}
 use Rattle.seq_tree.specs.declared.tree.Datum.{Datum}
-use Rattle.linked.specs.Slots.{vars_at}
+use Rattle.linker.specs.Slots.{vars_at}
 use Rattle.linker.specs.Programs.{datum_names}
 use Rattle.linker.specs.Scopes.{slots_of}
 use Rattle.linked_task.proofs.Distinct.{kept_slots}

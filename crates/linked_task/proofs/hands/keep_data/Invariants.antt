@@ -1,5 +1,5 @@
 use Rattle.std.proofs.Common.{◌≡◌, ◌≤◌, ◌+◌, length, drop, vec_capacity, vec_len}
-use Rattle.linked.specs.Slots.{vars_at}
+use Rattle.linker.specs.Slots.{vars_at}
 use Rattle.linker.specs.Programs.{datum_names}
 use Rattle.linker.specs.Scopes.{slots_of}
 use Rattle.task_runtime.specs.Stacked.{vars_of}

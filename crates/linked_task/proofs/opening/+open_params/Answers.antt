@@ -1,6 +1,6 @@
 use Rattle.std.proofs.Common.{◌≡◌, ◌∙◌, [], ◌∷◌, rules, ap, arith, sym}
 use Rattle.seq_tree.specs.Variables.{entered}
-use Rattle.linked.specs.Slots.{vars_at}
+use Rattle.linker.specs.Slots.{vars_at}
 use Rattle.linker.specs.Scopes.{slots_of}
 use Rattle.linked_task.proofs.Openings.{empty_of, entered_in, entered_lacking, entered_out, param_opened}
 use Rattle.linked_task.proofs.opening.+open_params.Goals as goal

@@ -1,6 +1,6 @@
 use Rattle.std.proofs.Common.{◌∙◌, sym, ap, length, set, arith}
 use Rattle.std.proofs.lemmas.List.{length-set, take_all}
-use Rattle.linked.specs.Slots.{vars_at}
+use Rattle.linker.specs.Slots.{vars_at}
 use Rattle.linker.specs.Scopes.{slots_of}
 use Rattle.task_runtime.specs.Fitting.{names_of}
 use Rattle.task_runtime.specs.Stacked.{vars_of}

@@ -2,7 +2,7 @@ use Rattle.std.proofs.Common.{◌≡◌, ◌-◌, arith, ◌∙◌, length, set,
 use Rattle.std.proofs.lemmas.List.{length-set}
 use Rattle.seq_tree.specs.declared.tree.Datum.{Datum}
 use Rattle.linked_task.proofs.Openings.{data_closed, data_opened, datum_opened}
-use Rattle.linked.specs.Slots.{vars_at}
+use Rattle.linker.specs.Slots.{vars_at}
 use Rattle.linker.specs.Scopes.{slots_of}
 use Rattle.linked_task.proofs.opening.open_data.Goals as goal
 

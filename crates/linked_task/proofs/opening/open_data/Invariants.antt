@@ -1,7 +1,7 @@
 use Rattle.std.proofs.Common.{◌≡◌, ◌≤◌, ◌+◌, ◌++◌, List, length, drop}
 use Rattle.seq_tree.specs.Names.{Name}
 use Rattle.seq_tree.specs.Variables.{written}
-use Rattle.linked.specs.Slots.{vars_at}
+use Rattle.linker.specs.Slots.{vars_at}
 use Rattle.linker.specs.Programs.{datum_names}
 use Rattle.linker.specs.Scopes.{slots_of}
 use Rattle.linked_task.proofs.opening.open_data.Given as goal

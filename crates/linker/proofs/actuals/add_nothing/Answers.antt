@@ -1,6 +1,6 @@
 use Rattle.std.proofs.Common.{refl}
 use Rattle.seq_tree.specs.Expressions.{Number}
-use Rattle.linked.specs.declared.code.Operand.TheVariants as operand
+use Rattle.linker.specs.declared.nodes.Operand.TheVariants as operand
 use Rattle.linker.specs.Standing.{lists_of}
 use Rattle.linker.proofs.Handing.{added_push, adds_in}
 use Rattle.linker.proofs.Keeping.{added_none}

@@ -2,7 +2,7 @@ use Rattle.std.proofs.Common.{◌≡◌, ◌∙◌, ◌++◌, ◌∷◌, [], rul
 use Rattle.seq_tree.specs.Expressions.{Variable}
 use Rattle.seq_tree.specs.Trees.{expression_of}
 use Rattle.seq_tree.specs.declared.tree.Expr.{the_lemmas}
-use Rattle.linked.specs.declared.code.Operand.TheVariants as operand
+use Rattle.linker.specs.declared.nodes.Operand.TheVariants as operand
 use Rattle.linker.specs.Standing.{lists_of}
 use Rattle.linker.proofs.Handing.{added_push}
 use Rattle.linker.proofs.Keeping.{added_none}

@@ -1,7 +1,7 @@
 use Rattle.std.proofs.Common.{[], map, sym, subst}
 use Rattle.ada_tree.specs.Trees.{unit_of}
 use Rattle.seq_tree.specs.Names.{Name}
-use Rattle.linked.proofs.Shared.Growths.{grows_twice}
+use Rattle.linker.proofs.Shared.Growths.{grows_twice}
 use Rattle.linker.specs.Callees.{body_of, lead_by}
 use Rattle.linker.specs.Leads.{Leads}
 use Rattle.linker.specs.Parts.{EndStands}

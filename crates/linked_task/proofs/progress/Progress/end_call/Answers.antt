@@ -1,7 +1,7 @@
 use Rattle.std.proofs.Common.{◌≡◌, List, [], length, refl, ap, ◌∙◌, arith, rules, Some}
 use Rattle.seq_tree.specs.Expressions.{Expression}
 use Rattle.linker.specs.Standing.{values_in}
-use Rattle.linked.specs.Slots.{set_all}
+use Rattle.linker.specs.Slots.{set_all}
 use Rattle.linked_task.specs.Handing.{target_slots}
 use Rattle.linked_task.proofs.Callings.{here_few}
 use Rattle.linked_task.proofs.Endings.{back_after, behind_amid, call_there, distinct_given, few_given, is_there, not_bare, out_fits, read_call}

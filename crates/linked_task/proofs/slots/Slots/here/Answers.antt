@@ -1,5 +1,5 @@
 use Rattle.std.proofs.Common.{drop, ap, ◌∙◌}
-use Rattle.linked.specs.Slots.{vars_at}
+use Rattle.linker.specs.Slots.{vars_at}
 use Rattle.linked_task.proofs.Zeros.{vars_read}
 use Rattle.linked_task.proofs.slots.Slots.here.Goals as goal
 

@@ -1,7 +1,7 @@
 use Rattle.std.proofs.Common.{ℕ, [], ap, sym, ◌∙◌, arith, length}
 use Rattle.std.proofs.lemmas.List.{append-nil, length-replicate}
 use Rattle.seq_tree.specs.Variables.{written}
-use Rattle.linked.specs.Slots.{vars_at}
+use Rattle.linker.specs.Slots.{vars_at}
 use Rattle.linker.specs.Programs.{datum_names}
 use Rattle.linker.specs.Scopes.{slots_of}
 use Rattle.linked_task.proofs.stack.Stack.new.Goals as goal

@@ -1,7 +1,7 @@
 use Rattle.std.proofs.Common.{List, ap, sym, subst, ◌∙◌}
 use Rattle.seq_tree.specs.Values.{value}
-use Rattle.linked.specs.Nodes.{Links}
-use Rattle.linked.specs.declared.code.Node.{Node}
+use Rattle.linker.specs.Nodes.{Links}
+use Rattle.linker.specs.declared.nodes.Node.{Node}
 use Rattle.linked_task.proofs.stack.Stack.value.Goals as goal
 
 pub returns : goal.returns

@@ -1,9 +1,9 @@
 use Rattle.std.proofs.Common.{◌<◌, length, arith, subst, ◌∙◌}
-use Rattle.linked.specs.Nodes.{Links, IsBelow, reach}
-use Rattle.linked.specs.declared.code.Node.TheVariants as node
-use Rattle.linked.proofs.Shared.NodeValues.{number_value, slot_value_is, not_value, binary_value}
-use Rattle.linked.proofs.Reaches.{below_more, has_below, node_at, place_below, reach_falls}
-use Rattle.linked.proofs.values.+value_at.Goals as goal
+use Rattle.linker.specs.Nodes.{Links, IsBelow, reach}
+use Rattle.linker.specs.declared.nodes.Node.TheVariants as node
+use Rattle.linker.proofs.Shared.NodeValues.{number_value, slot_value_is, not_value, binary_value}
+use Rattle.linker.proofs.Reaches.{below_more, has_below, node_at, place_below, reach_falls}
+use Rattle.linker.proofs.values.+value_at.Goals as goal
 
 pub value_at-value-requires : goal.value_at-value-requires
 value_at-value-requires t c =

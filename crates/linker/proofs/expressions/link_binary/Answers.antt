@@ -1,5 +1,5 @@
-use Rattle.linked.proofs.Shared.Growths.{linked_binary}
-use Rattle.linked.proofs.link.link_binary.Goals as goal
+use Rattle.linker.proofs.Shared.Growths.{linked_binary}
+use Rattle.linker.proofs.expressions.link_binary.Goals as goal
 use Rattle.std.proofs.lemmas.Option.{slice_get_within}
 
 pub returns-clause-linked : goal.returns-clause-linked

@@ -6,8 +6,8 @@ use Rattle.std.proofs.lemmas.List.{length-set}
 use Rattle.seq_tree.specs.Names.{Name}
 use Rattle.seq_tree.specs.Variables.{Variables, stored, write}
 use Rattle.seq_eval.specs.Lookups.{found}
-use Rattle.linked.specs.Slots.{AreSlots, set_all, slot_of, stored_at, vars_at}
-use Rattle.linked.proofs.Shared.Writing.{below, set_here, stores_write}
+use Rattle.linker.specs.Slots.{AreSlots, set_all, slot_of, stored_at, vars_at}
+use Rattle.linker.proofs.Shared.Writing.{below, set_here, stores_write}
 
 -- a slot that no variable of a scope has gets a value, and a name
 pub named : (name : Name) (value slot : ℕ) (scope : Variables) (slots : List ℕ) → AreSlots slot scope → slot < length slots

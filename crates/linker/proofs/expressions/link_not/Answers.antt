@@ -1,5 +1,5 @@
-use Rattle.linked.proofs.Shared.Growths.{linked_not}
-use Rattle.linked.proofs.link.link_not.Goals as goal
+use Rattle.linker.proofs.Shared.Growths.{linked_not}
+use Rattle.linker.proofs.expressions.link_not.Goals as goal
 use Rattle.std.proofs.lemmas.Option.{slice_get_within}
 
 pub returns-clause-linked : goal.returns-clause-linked

@@ -2,8 +2,8 @@ use Rattle.std.proofs.Common.{◌≡◌, rules}
 use Rattle.seq_tree.specs.Expressions.{Binary}
 use Rattle.seq_tree.specs.Trees.{expression_of}
 use Rattle.seq_tree.specs.declared.tree.Expr.{the_lemmas}
-use Rattle.linked.proofs.Shared.Growths.{binary_ok, grows_twice, linked_grown}
-use Rattle.linked.proofs.link.+link_expr.Goals as goal
+use Rattle.linker.proofs.Shared.Growths.{binary_ok, grows_twice, linked_grown}
+use Rattle.linker.proofs.expressions.+link_expr.Goals as goal
 
 pub returns-in_ok-right-in-Binary-clause-grows : goal.returns-in_ok-right-in-Binary-clause-grows
 returns-in_ok-right-in-Binary-clause-grows g t c =

@@ -1,3 +1,0 @@
-pub mod SlotReads
-pub mod Reaches
-pub mod Shared

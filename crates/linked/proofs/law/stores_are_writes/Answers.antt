@@ -1,5 +1,0 @@
-use Rattle.linked.proofs.Shared.Writing.{stores_write}
-use Rattle.linked.proofs.law.stores_are_writes.Goals as goal
-
-pub returns : goal.returns
-returns c = stores_write

@@ -12,9 +12,9 @@ use Rattle.machine.specs.Deeds as deeds
 use Rattle.machine.specs.Deeds.{deed, done}
 use Rattle.machine.specs.Effects.{acted, ceiling_of, entry, section_unit, entered_at, exit, inside_now, lending, lent, outside_now}
 use Rattle.task_runtime.specs.Works.{EffortFalls, IsNested}
-use Rattle.linked_task.specs.Works.{task_of}
-use Rattle.linked_task.specs.declared.task.Task.{Task}
-use Rattle.linked_task.specs.Sounds.{IsAtWork}
+use Rattle.task_runtime.specs.Tasks.{task_of}
+use Rattle.task_runtime.specs.declared.task.Task.{Task}
+use Rattle.task_runtime.specs.Sounds.{IsAtWork}
 use Rattle.ceil_runtime.specs.Snapshots.{IsWholeAt, Snapshot, system_at, state_at}
 use Rattle.ceil_runtime.specs.Stepping.{AreOfTask, Ends, GoesOn, Nothing, One, Steps, Told, told_of, Two}
 use Rattle.ceil_runtime.proofs.Phases.{acting}

@@ -13,14 +13,14 @@ use Rattle.machine.specs.Releases.{Next, going, is_waiting, released}
 use Rattle.task_runtime.specs.Doing.{act_of}
 use Rattle.task_runtime.specs.Effort.{sections_among}
 use Rattle.task_runtime.specs.Readies.{is_ready}
-use Rattle.linked_task.specs.Works.{ActsAs, task_of}
+use Rattle.task_runtime.specs.Tasks.{ActsAs, task_of}
 use Rattle.task_runtime.specs.Written.{system_of}
 use Rattle.task_runtime.specs.declared.effects.Act.{Act}
 use Rattle.task_runtime.specs.declared.effects.Act.TheVariants.{Silent, Print, Ask, Keep, Open, Ended, Finish}
-use Rattle.linked_task.specs.declared.piece.Deed.TheVariants as to
+use Rattle.task_runtime.specs.declared.piece.Deed.TheVariants as to
 use Rattle.task_runtime.specs.declared.readiness.Readiness.TheVariants as readies
-use Rattle.linked_task.specs.declared.task.Task.{Task}
-use Rattle.linked_task.specs.Sounds.{IsAtWork}
+use Rattle.task_runtime.specs.declared.task.Task.{Task}
+use Rattle.task_runtime.specs.Sounds.{IsAtWork}
 use Rattle.ceil_runtime.specs.Acted.{HasActed, with_tasks}
 use Rattle.ceil_runtime.specs.Processing.{IsKept, IsSound}
 use Rattle.ceil_runtime.specs.Snapshots.{IsWholeAt, Snapshot, system_at}
@@ -35,7 +35,7 @@ use Rattle.ceil_runtime.proofs.Reached.{among-tasks}
 use Rattle.ceil_runtime.proofs.Released.{waiting-free}
 use Rattle.ceil_runtime.proofs.Stepped.{effect_state, finish-rests, going-step, served-step, sleep-step, wait-step}
 use Rattle.task_runtime.proofs.Shared.AtWork.{ask-is}
-use Rattle.linked_task.proofs.Shared.AtWork.{nests-going, reached-act}
+use Rattle.task_runtime.proofs.Shared.TasksAtWork.{nests-going, reached-act}
 
 module _ (ts : List Task) (s : Snapshot) (i : ℕ) (act : Act) (t t' : Task) (h : HasActed ts s i act t t') where
   acted_there : slice_get s.tasks i ≡ Some t'

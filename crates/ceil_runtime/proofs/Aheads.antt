@@ -9,7 +9,7 @@ use Rattle.std.proofs.lemmas.Option.{same_Some, slice_get_read}
 use Rattle.link_queue.specs.Queues.{Each, Entry, IsOrdered, WakesBefore}
 use Rattle.link_queue.proofs.Shared.Lists.{each-map}
 use Rattle.ceil_runtime.specs.Processing.{IsWithin}
-use Rattle.linked_task.specs.declared.task.Task.{Task}
+use Rattle.task_runtime.specs.declared.task.Task.{Task}
 
 -- all wake after the first one
 pub wake-most : (time n : ℕ) (es : List Entry) (wake : ℕ) → IsOrdered WakesBefore es → Some wake ≡ option_map (λ e. e.1) (slice_get es 0)

@@ -15,7 +15,7 @@ use Rattle.machine.specs.States as states
 use Rattle.law_dispatching.specs.Jumping.{NoArrival}
 use Rattle.law_dispatching.specs.Queueing.{AreSleeping, SleepsUntil}
 use Rattle.ceil_runtime.specs.Acted.{IsActing}
-use Rattle.linked_task.specs.Alongs.{HasDone, OneAlong, SoMany}
+use Rattle.task_runtime.specs.Alongs.{HasDone, OneAlong, SoMany}
 use Rattle.ceil_runtime.specs.Alone.{GoesAlone, IsAlone, threads_at}
 use Rattle.task_runtime.specs.Effort.{most_ends}
 use Rattle.ceil_runtime.specs.Left.{ran_effort}
@@ -23,14 +23,14 @@ use Rattle.ceil_runtime.specs.Processing.{Follows, IsBelow, IsSound, IsWithin, s
 use Rattle.ceil_runtime.specs.Snapshots.{AreAtWork, IsWholeAt, Snapshot, running_at}
 use Rattle.ceil_runtime.specs.Stepping.{AreOfTask, HasObject, HasOp, HasUnit, IsNear, IsOfTask, Nothing, One, Steps, steps_by, Told, told_of, Two}
 use Rattle.task_runtime.specs.Works.{used_ticks}
-use Rattle.linked_task.specs.Works.{task_of}
+use Rattle.task_runtime.specs.Tasks.{task_of}
 use Rattle.task_runtime.specs.Written.{system_of}
 use Rattle.linker.specs.declared.program.LinkedUnits.{LinkedUnits}
 use Rattle.task_runtime.specs.declared.effects.Act.TheVariants as acts
 use Rattle.trace_tree.specs.declared.event.Event.{Event}
 use Rattle.trace_tree.specs.declared.event.Event.TheVariants as event
 use Rattle.ceil_runtime.specs.declared.processor.Phase.TheVariants.{Effects, Delays, Arriving, Use}
-use Rattle.linked_task.specs.declared.task.Task.{Task}
+use Rattle.task_runtime.specs.declared.task.Task.{Task}
 use Rattle.task_runtime.specs.declared.thread.Thread.{Thread}
 use Rattle.ceil_runtime.proofs.Aheads.{wake-most}
 use Rattle.ceil_runtime.proofs.Advancing.{follows-none, follows-then}
@@ -42,7 +42,7 @@ use Rattle.ceil_runtime.proofs.Processed.{Changed, arriving-goes, changed-system
 use Rattle.ceil_runtime.proofs.Processed.{set-twice, still-reached, use-run, use-sound}
 use Rattle.ceil_runtime.proofs.Released.{delays-over, going-active}
 use Rattle.ceil_runtime.proofs.Stepped.{going-step}
-use Rattle.linked_task.proofs.Shared.AtWork.{nests-going}
+use Rattle.task_runtime.proofs.Shared.TasksAtWork.{nests-going}
 
 -- put before its equals, a task that no other goes before is the first
 ahead-of : (i active : ℕ) (ready : List Entry) → IsBelow active ready → at_head (i, active) ready ≡ (i, active) ∷ ready

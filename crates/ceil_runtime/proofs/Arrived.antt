@@ -26,8 +26,8 @@ use Rattle.law_dispatching.proofs.Shared.Sleeping.{sleeping-kept}
 use Rattle.ceil_runtime.specs.Processing.{IsKept, IsSound, state_by, system_by}
 use Rattle.task_runtime.specs.Readies.{is_ready, readiness_of}
 use Rattle.task_runtime.specs.Works.{asked, IsNested}
-use Rattle.linked_task.specs.Works.{task_of}
-use Rattle.linked_task.specs.declared.task.Task.{Task}
+use Rattle.task_runtime.specs.Tasks.{task_of}
+use Rattle.task_runtime.specs.declared.task.Task.{Task}
 use Rattle.task_runtime.specs.declared.readiness.Readiness.TheVariants as readies
 use Rattle.ceil_runtime.specs.declared.processor.Phase.TheVariants.{Arriving}
 use Rattle.ceil_runtime.proofs.Processed.{changed-alike, Changed, changed-all, changed-length, changed-tasks, here-of, step-run}

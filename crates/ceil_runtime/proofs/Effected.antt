@@ -33,11 +33,11 @@ use Rattle.task_runtime.specs.Doing.{act_of}
 use Rattle.ceil_runtime.specs.Processing.{AllTasks, HasNoEffect, IsKept, IsSound, order_of, state_by, system_by, with_task}
 use Rattle.task_runtime.specs.Readies.{is_ready, readiness_of}
 use Rattle.task_runtime.specs.Works.{Acts, IsNested}
-use Rattle.linked_task.specs.Works.{task_of}
+use Rattle.task_runtime.specs.Tasks.{task_of}
 use Rattle.task_runtime.specs.Written.{system_of}
 use Rattle.task_runtime.specs.declared.effects.Act.{Act}
 use Rattle.task_runtime.specs.declared.effects.Act.TheVariants.{Finish}
-use Rattle.linked_task.specs.declared.task.Task.{Task}
+use Rattle.task_runtime.specs.declared.task.Task.{Task}
 use Rattle.task_runtime.specs.declared.readiness.Readiness as readiness
 use Rattle.task_runtime.specs.declared.readiness.Readiness.TheVariants as readies
 use Rattle.ceil_runtime.specs.declared.processor.Phase.TheVariants.{Effects, Delays}
@@ -45,7 +45,7 @@ use Rattle.ceil_runtime.proofs.Processed.{runs-alike, changed-alike, Changed, ch
 use Rattle.ceil_runtime.proofs.Processed.{get_within, step-run}
 use Rattle.ceil_runtime.proofs.Released.{changed_at, asleep-apart, going-active, going-next, going-readiness, going-used, ready-is, serve-none}
 use Rattle.ceil_runtime.proofs.Released.{serve-run, tail-ranks, waiting-released}
-use Rattle.linked_task.proofs.Shared.AtWork.{rests-idle}
+use Rattle.task_runtime.proofs.Shared.TasksAtWork.{rests-idle}
 
 clash : true ≡ false → ⊥
 clash k = cc

@@ -18,12 +18,12 @@ use Rattle.ceil_runtime.specs.Stepping.{HasObject, HasOp}
 use Rattle.task_runtime.specs.Written.{system_of}
 use Rattle.ceil_runtime.specs.declared.object.Object.{Object}
 use Rattle.ceil_runtime.specs.declared.processor.Machine.{Machine}
-use Rattle.linked_task.specs.declared.piece.Deed.{Deed}
-use Rattle.linked_task.specs.declared.piece.Entry.{Entry}
-use Rattle.linked_task.specs.declared.piece.Piece.{Piece}
-use Rattle.linked_task.specs.declared.task.Task.{Task}
-use Rattle.linked_task.specs.declared.piece.Deed.TheVariants.{Enter, Leave}
-use Rattle.linked_task.proofs.Shared.AtWork.{IsThere, entry-there, exit-there}
+use Rattle.task_runtime.specs.declared.piece.Deed.{Deed}
+use Rattle.task_runtime.specs.declared.piece.Entry.{Entry}
+use Rattle.task_runtime.specs.declared.piece.Piece.{Piece}
+use Rattle.task_runtime.specs.declared.task.Task.{Task}
+use Rattle.task_runtime.specs.declared.piece.Deed.TheVariants.{Enter, Leave}
+use Rattle.task_runtime.proofs.Shared.TasksAtWork.{IsThere, entry-there, exit-there}
 use Rattle.task_runtime.specs.declared.values.Var.{Var}
 use Rattle.ada_tree.specs.declared.program.Unit as units
 use Rattle.ceil_runtime.proofs.Phases.{doing-here}

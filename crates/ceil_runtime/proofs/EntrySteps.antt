@@ -20,7 +20,7 @@ use Rattle.machine.specs.Deeds.{PieceOutcome, deed, done}
 use Rattle.machine.specs.Releases.{Next, after, going, is_waiting, released, serve}
 use Rattle.machine.specs.Effects.{acted, ceiling_of, entry, exit, inside_now, object_unit, outside_now, section_unit, task_unit}
 use Rattle.law_dispatching.proofs.Shared.Acts.{not-served}
-use Rattle.linked_task.specs.Works.{IsActOf}
+use Rattle.task_runtime.specs.Tasks.{IsActOf}
 use Rattle.task_runtime.specs.Effort.{sections_among}
 use Rattle.ceil_runtime.specs.Acted.{IsDoing}
 use Rattle.ceil_runtime.specs.Objects.{first_object, lasting, shown, store_of}
@@ -29,15 +29,15 @@ use Rattle.task_runtime.specs.Readies.{readiness_of}
 use Rattle.ceil_runtime.specs.Snapshots.{IsWholeAt, Snapshot, system_at}
 use Rattle.ceil_runtime.specs.Stepping.{HasObject, HasOp, HasUnit, Nothing, One, Steps, Told, Two}
 use Rattle.task_runtime.specs.Works.{Acts, EffortFalls, Enters, Leaves}
-use Rattle.linked_task.specs.Works.{ActsAs, task_of}
+use Rattle.task_runtime.specs.Tasks.{ActsAs, task_of}
 use Rattle.task_runtime.specs.Written.{system_of}
 use Rattle.task_runtime.specs.declared.effects.Act.TheVariants as acts
-use Rattle.linked_task.specs.declared.piece.Deed.{Deed}
+use Rattle.task_runtime.specs.declared.piece.Deed.{Deed}
 use Rattle.ceil_runtime.specs.declared.object.Object as objects
-use Rattle.linked_task.specs.declared.piece.Piece.{Piece}
-use Rattle.linked_task.specs.declared.task.Task.{Task}
-use Rattle.linked_task.specs.Sounds.{IsAtWork}
-use Rattle.linked_task.proofs.Shared.FirstPieces.{HasFirst, first-piece}
+use Rattle.task_runtime.specs.declared.piece.Piece.{Piece}
+use Rattle.task_runtime.specs.declared.task.Task.{Task}
+use Rattle.task_runtime.specs.Sounds.{IsAtWork}
+use Rattle.task_runtime.proofs.Shared.FirstPieces.{HasFirst, first-piece}
 use Rattle.task_runtime.specs.declared.readiness.Readiness.{Readiness}
 use Rattle.task_runtime.specs.declared.readiness.Readiness.TheVariants as readies
 use Rattle.ceil_runtime.specs.declared.processor.Phase.TheVariants.{Effects}
@@ -50,8 +50,8 @@ use Rattle.ceil_runtime.proofs.Reached.{asked-unit, unit-before}
 use Rattle.ceil_runtime.proofs.Sectioned.{left-sound}
 use Rattle.ceil_runtime.proofs.Stepped.{acted_to, effect_state}
 use Rattle.task_runtime.proofs.Shared.AtWork.{inside-going, outside-going}
-use Rattle.linked_task.proofs.Shared.AtWork.{inside-falls, inside-works, nests-inside, nests-outside, outside-falls}
-use Rattle.linked_task.proofs.Shared.AtWork.{outside-works}
+use Rattle.task_runtime.proofs.Shared.TasksAtWork.{inside-falls, inside-works, nests-inside, nests-outside, outside-falls}
+use Rattle.task_runtime.proofs.Shared.TasksAtWork.{outside-works}
 
 -- an entry that stands behind others leaves their facts
 each-behind : (P : Entry → Type 0) (before : Entry → Bool) (e : Entry) (es : List Entry) → Each P (put_behind before e es) → Each P es

@@ -11,7 +11,7 @@ use Rattle.machine.specs.Meanings.{Running, Rest, run}
 use Rattle.ceil_runtime.specs.Left.{Falls}
 use Rattle.ceil_runtime.specs.Processing.{Follows, HasNoEffect, HoldsIn, IsRunning}
 use Rattle.ceil_runtime.specs.Shown.{IsSettled}
-use Rattle.linked_task.specs.declared.task.Task.{Task}
+use Rattle.task_runtime.specs.declared.task.Task.{Task}
 use Rattle.ceil_runtime.specs.Stepping.{GoesOn, told_of}
 use Rattle.ceil_runtime.specs.Stepping as told
 use Rattle.ceil_runtime.specs.declared.processor.Phase.TheVariants.{Arriving, Use}

@@ -7,12 +7,12 @@ use Rattle.machine.specs.Pieces.{Finishing, Idle, Requested}
 use Rattle.ceil_runtime.specs.Acted.{HasActed, with_tasks}
 use Rattle.task_runtime.specs.Effort.{effort, sections_among}
 use Rattle.ceil_runtime.specs.Snapshots.{IsWholeAt, Snapshot}
-use Rattle.linked_task.specs.Works.{task_of}
+use Rattle.task_runtime.specs.Tasks.{task_of}
 use Rattle.task_runtime.specs.Written.{reserve, system_of}
 use Rattle.task_runtime.specs.declared.effects.Act.TheVariants.{Silent, Print, Keep, Finish}
 use Rattle.ceil_runtime.specs.declared.processor.Phase.TheVariants.{Effects}
-use Rattle.linked_task.specs.declared.task.Task.{Task}
-use Rattle.linked_task.specs.Sounds.{IsAtWork}
+use Rattle.task_runtime.specs.declared.task.Task.{Task}
+use Rattle.task_runtime.specs.Sounds.{IsAtWork}
 
 -- a task whose one piece does nothing has no piece then
 has-acted : (s : Snapshot) (ts : List Task) (t t' : Task) → IsWholeAt s → s.phase ≡ Effects (Some 0) → s.stopped ≡ false

@@ -9,7 +9,7 @@ use Rattle.ceil_runtime.specs.Stepping.{HasOp, HasStopped}
 use Rattle.task_runtime.specs.Written.{system_of}
 use Rattle.ceil_runtime.specs.declared.object.Object as objects
 use Rattle.ceil_runtime.specs.declared.processor.Machine.{Machine}
-use Rattle.linked_task.specs.declared.task.Task.{Task}
+use Rattle.task_runtime.specs.declared.task.Task.{Task}
 use Rattle.task_runtime.proofs.Shared.ExampleSystem.{object, three}
 use Rattle.machine.specs.Systems.{objects_from}
 

@@ -14,10 +14,10 @@ use Rattle.link_queue.specs.Queues.{Entry}
 use Rattle.task_runtime.specs.Effort.{most_ends}
 use Rattle.ceil_runtime.specs.Left.{left, ran_effort, sleeper, sleepers}
 use Rattle.ceil_runtime.specs.Processing.{state_by, system_by}
-use Rattle.linked_task.specs.Works.{task_of}
+use Rattle.task_runtime.specs.Tasks.{task_of}
 use Rattle.task_runtime.specs.Readies.{readiness_of}
 use Rattle.task_runtime.specs.Written.{thread_of}
-use Rattle.linked_task.specs.declared.task.Task as works
+use Rattle.task_runtime.specs.declared.task.Task as works
 use Rattle.task_runtime.specs.declared.readiness.Readiness.TheVariants as readiness
 use Rattle.ceil_runtime.specs.declared.processor.Phase.{Phase}
 use Rattle.ceil_runtime.specs.declared.processor.Phase.TheVariants.{Effects, Delays, Arriving, Use}

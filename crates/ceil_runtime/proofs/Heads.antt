@@ -4,7 +4,7 @@ use Rattle.std.proofs.Common.{sym, ◌∙◌, ap, subst, arith, inl, inr}
 use Rattle.std.proofs.lemmas.Option.{same_Some}
 use Rattle.link_queue.specs.Queues.{Each, Entry}
 use Rattle.ceil_runtime.specs.Processing.{IsWithin}
-use Rattle.linked_task.specs.declared.task.Task.{Task}
+use Rattle.task_runtime.specs.declared.task.Task.{Task}
 
 pub first-holds : (P : Entry → Type 0) (es : List Entry) (e : Entry) → slice_get es 0 ≡ Some e → Each P es → P e
 first-holds P [] e at h = absurd (cc at)

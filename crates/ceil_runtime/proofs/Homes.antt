@@ -6,11 +6,11 @@ use Rattle.machine.specs.Effects.{ceiling_of}
 use Rattle.machine.specs.States.{Object as InObject}
 use Rattle.law_ceilings.specs.Homes.{IsHome, IsOpenTo}
 use Rattle.task_runtime.specs.Fitting.{names_of}
-use Rattle.linked_task.specs.Works.{task_of}
-use Rattle.linked_task.specs.declared.piece.Deed.TheVariants.{Enter}
-use Rattle.linked_task.specs.declared.piece.Entry.{Entry}
-use Rattle.linked_task.specs.declared.piece.Piece.{Piece}
-use Rattle.linked_task.specs.declared.task.Task.{Task}
+use Rattle.task_runtime.specs.Tasks.{task_of}
+use Rattle.task_runtime.specs.declared.piece.Deed.TheVariants.{Enter}
+use Rattle.task_runtime.specs.declared.piece.Entry.{Entry}
+use Rattle.task_runtime.specs.declared.piece.Piece.{Piece}
+use Rattle.task_runtime.specs.declared.task.Task.{Task}
 use Rattle.ceil_runtime.specs.Acted.{IsDoing}
 use Rattle.ceil_runtime.specs.Objects.{store_of}
 use Rattle.ceil_runtime.specs.Shown.{snapshot_of}

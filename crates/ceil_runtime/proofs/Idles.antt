@@ -4,11 +4,11 @@ use Rattle.std.proofs.Common.{sym, ◌∙◌, ap, subst, inl, inr}
 use Rattle.std.proofs.lemmas.Option.{same_Some}
 use Rattle.ceil_runtime.specs.Processing.{IsDue}
 use Rattle.task_runtime.specs.Readies.{is_ready}
-use Rattle.linked_task.specs.declared.piece.Piece as piece
-use Rattle.linked_task.specs.declared.task.Task.{Task}
+use Rattle.task_runtime.specs.declared.piece.Piece as piece
+use Rattle.task_runtime.specs.declared.task.Task.{Task}
 use Rattle.linker.specs.declared.program.LinkedUnits.{LinkedUnits}
 use Rattle.ceil_runtime.specs.Snapshots.{AreAtWork}
-use Rattle.linked_task.proofs.Shared.AtWork.{piece-ready}
+use Rattle.task_runtime.proofs.Shared.TasksAtWork.{piece-ready}
 
 -- what is due of the task at a place, from the task: by lemmas, since a search takes seconds in the machine's context
 module _ (c : LinkedUnits) (tasks : List Task) (at_work : AreAtWork c tasks) (i : ℕ) (t : Task) (here : slice_get tasks i ≡ Some t) where

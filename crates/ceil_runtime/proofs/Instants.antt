@@ -17,10 +17,10 @@ use Rattle.law_dispatching.specs.Renumbering.{DifferInOrders}
 use Rattle.task_runtime.specs.Effort.{most_ends}
 use Rattle.task_runtime.specs.Readies.{is_ready}
 use Rattle.task_runtime.specs.Works.{asked, used_ticks}
-use Rattle.linked_task.specs.Works.{task_of}
+use Rattle.task_runtime.specs.Tasks.{task_of}
 use Rattle.task_runtime.specs.declared.readiness.Readiness.TheVariants as readies
-use Rattle.linked_task.specs.declared.task.Task.{Task}
-use Rattle.linked_task.specs.Sounds.{IsAtWork}
+use Rattle.task_runtime.specs.declared.task.Task.{Task}
+use Rattle.task_runtime.specs.Sounds.{IsAtWork}
 use Rattle.ceil_runtime.specs.Left.{left}
 use Rattle.ceil_runtime.specs.Processing.{Follows, IsKept, IsSound, IsWithin, state_by}
 use Rattle.ceil_runtime.specs.Snapshots.{IsWholeAt, Snapshot, running_at, state_at, system_at}

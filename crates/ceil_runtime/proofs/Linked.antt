@@ -9,8 +9,8 @@ use Rattle.linker.specs.declared.program.LinkedUnits.{LinkedUnits}
 use Rattle.task_runtime.specs.Libraries.{no_costs}
 use Rattle.task_runtime.specs.Written.{system_of, thread_of}
 use Rattle.task_runtime.specs.declared.thread.Thread.{Thread}
-use Rattle.linked_task.specs.Sounds.{IsTaskStart}
-use Rattle.linked_task.proofs.Shared.TaskStarts.{starts-count}
+use Rattle.task_runtime.specs.Sounds.{IsTaskStart}
+use Rattle.task_runtime.proofs.Shared.TaskStarts.{starts-count}
 use Rattle.ceil_runtime.specs.Gathering.{AllThreads}
 use Rattle.ceil_runtime.specs.Starts.{CanStart, system_for}
 

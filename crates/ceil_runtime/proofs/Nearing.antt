@@ -14,13 +14,13 @@ use Rattle.task_runtime.specs.Effort.{effort, most_ends, own_vars}
 use Rattle.ceil_runtime.specs.Processing.{AllTasks, IsKept, system_by}
 use Rattle.ceil_runtime.specs.Left.{effort_of, ran_effort}
 use Rattle.ceil_runtime.specs.Stepping.{steps_by}
-use Rattle.linked_task.specs.Works.{task_of}
+use Rattle.task_runtime.specs.Tasks.{task_of}
 use Rattle.task_runtime.specs.Written.{system_of, params_of, reserve, thread_of}
-use Rattle.linked_task.specs.declared.task.Task.{Task}
+use Rattle.task_runtime.specs.declared.task.Task.{Task}
 use Rattle.linker.specs.declared.program.LinkedUnits.{LinkedUnits}
 use Rattle.ceil_runtime.specs.Snapshots.{AreAtWork}
 use Rattle.ceil_runtime.specs.declared.processor.Phase.TheVariants.{Effects, Use}
-use Rattle.linked_task.proofs.Shared.AtWork.{effort-few}
+use Rattle.task_runtime.proofs.Shared.TasksAtWork.{effort-few}
 use Rattle.machine.specs.Systems.{libraries_from, objects_from}
 
 -- the sum of a list by its first number

@@ -11,9 +11,9 @@ use Rattle.machine.specs.States.{Object as InObject}
 use Rattle.ceil_runtime.specs.Objects.{AreObjectsOf, first_object, lasting, shown, store_of}
 use Rattle.ceil_runtime.specs.Processing.{system_by}
 use Rattle.ceil_runtime.specs.declared.object.Object.{Object}
-use Rattle.linked_task.specs.declared.piece.Entry.{Entry}
-use Rattle.linked_task.specs.declared.task.Task.{Task}
-use Rattle.linked_task.proofs.Shared.AtWork.{IsThere}
+use Rattle.task_runtime.specs.declared.piece.Entry.{Entry}
+use Rattle.task_runtime.specs.declared.task.Task.{Task}
+use Rattle.task_runtime.proofs.Shared.TasksAtWork.{IsThere}
 
 twice : {A B C : Type 0} (g : B → C) (f : A → B) (xs : List A) → map g (map f xs) ≡ map (λ x. g (f x)) xs
 twice g f [] = refl

@@ -3,14 +3,14 @@
 use Rattle.std.specs.Prelude.{◌≡◌, ℕ, ◌<◌, ◌^◌, false, List, Some, get_or, length, slice_get, refl}
 use Rattle.std.proofs.Common.{sym, ◌∙◌, ap, subst, arith}
 use Rattle.std.proofs.lemmas.Option.{same_Some, slice_get_read}
-use Rattle.linked_task.specs.Doings.{IsDeed}
-use Rattle.linked_task.specs.Works.{ActsAs, task_of}
+use Rattle.task_runtime.specs.Doings.{IsDeed}
+use Rattle.task_runtime.specs.Tasks.{ActsAs, task_of}
 use Rattle.task_runtime.specs.Written.{system_of}
 use Rattle.trace_tree.specs.declared.event.Event.{Event}
-use Rattle.linked_task.specs.declared.piece.Deed.{Deed}
-use Rattle.linked_task.specs.declared.piece.Piece.{Piece}
-use Rattle.linked_task.specs.declared.task.Task.{Task}
-use Rattle.linked_task.specs.Sounds.{IsAtWork}
+use Rattle.task_runtime.specs.declared.piece.Deed.{Deed}
+use Rattle.task_runtime.specs.declared.piece.Piece.{Piece}
+use Rattle.task_runtime.specs.declared.task.Task.{Task}
+use Rattle.task_runtime.specs.Sounds.{IsAtWork}
 use Rattle.ceil_runtime.specs.Acted.{IsActing, IsDoing}
 use Rattle.ceil_runtime.specs.Processing.{HasPiece, IsKept}
 use Rattle.ceil_runtime.specs.Snapshots.{IsWholeAt, Snapshot}

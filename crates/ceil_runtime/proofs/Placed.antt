@@ -21,7 +21,7 @@ use Rattle.machine.specs.Systems.{ProtectedUnit, TaskUnit, thread_by, system, ob
 use Rattle.ceil_runtime.specs.Processing.{AllTasks, IsKept}
 use Rattle.ceil_runtime.specs.Stepping.{AreOfTask, HasObject, HasOp, HasUnit, IsOfTask, Nothing, One, Told, Two, told_of}
 use Rattle.task_runtime.specs.Written.{system_of, thread_of}
-use Rattle.linked_task.specs.declared.task.Task.{Task}
+use Rattle.task_runtime.specs.declared.task.Task.{Task}
 
 -- the unit of a task, where there is one
 abbrev unit_or : ℕ → Option TaskUnit → ℕ

@@ -38,10 +38,10 @@ use Rattle.ceil_runtime.specs.Reaching.{IsReached}
 use Rattle.ceil_runtime.specs.Snapshots.{AreAtWork, IsWholeAt, Snapshot, running_at}
 use Rattle.task_runtime.specs.Readies.{is_ready}
 use Rattle.task_runtime.specs.Works.{IsNested, used_ticks}
-use Rattle.linked_task.specs.Works.{task_of}
-use Rattle.linked_task.specs.declared.task.Task.{Task}
+use Rattle.task_runtime.specs.Tasks.{task_of}
+use Rattle.task_runtime.specs.declared.task.Task.{Task}
 use Rattle.linker.specs.declared.program.LinkedUnits.{LinkedUnits}
-use Rattle.linked_task.specs.Sounds.{IsAtWork}
+use Rattle.task_runtime.specs.Sounds.{IsAtWork}
 use Rattle.ceil_runtime.specs.declared.processor.Phase.TheVariants.{Effects, Arriving, Use}
 use Rattle.ceil_runtime.proofs.Reaching.{reached-renumbered, reached-run}
 

@@ -10,7 +10,7 @@ use Rattle.machine.specs.States.{Control}
 use Rattle.ceil_runtime.specs.Processing.{AreAlike, system_by}
 use Rattle.ceil_runtime.specs.Stepping.{HasUnit}
 use Rattle.task_runtime.specs.Written.{system_of, thread_of, timing_of}
-use Rattle.linked_task.specs.declared.task.Task.{Task}
+use Rattle.task_runtime.specs.declared.task.Task.{Task}
 
 -- the unit and the ceiling of a task that is requested
 module _ (until : ℕ) (costs : Costs) (us : List units.Unit) (tasks : List Task) (k : ℕ) (u : Task) (here : slice_get tasks k ≡ Some u) where

@@ -30,14 +30,14 @@ use Rattle.law_dispatching.proofs.Shared.Places.{get-within}
 use Rattle.ceil_runtime.specs.Processing.{HoldsIn, IsKept, IsSound, order_of, state_by, system_by}
 use Rattle.task_runtime.specs.Effort.{sections_among}
 use Rattle.task_runtime.specs.Progressed.{is_idle}
-use Rattle.linked_task.specs.Lefts.{pieces_left}
+use Rattle.task_runtime.specs.Lefts.{pieces_left}
 use Rattle.task_runtime.specs.Readies.{is_ready, readiness_of, rests_as}
 use Rattle.task_runtime.specs.Works.{IsNested}
-use Rattle.linked_task.specs.Works.{task_of}
+use Rattle.task_runtime.specs.Tasks.{task_of}
 use Rattle.task_runtime.specs.Written.{timing_of}
 use Rattle.task_runtime.specs.declared.thread.Timing.{Timing}
 use Rattle.task_runtime.specs.declared.thread.Timing.TheVariants as timing
-use Rattle.linked_task.specs.declared.task.Task.{Task}
+use Rattle.task_runtime.specs.declared.task.Task.{Task}
 use Rattle.task_runtime.specs.declared.readiness.Readiness as readiness
 use Rattle.task_runtime.specs.declared.readiness.Readiness.TheVariants as readies
 use Rattle.ceil_runtime.specs.declared.processor.Phase.{Phase}

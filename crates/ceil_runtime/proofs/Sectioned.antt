@@ -28,8 +28,8 @@ use Rattle.law_dispatching.specs.Renumbering.{DifferInOrders}
 use Rattle.law_dispatching.proofs.Shared.Acts.{entry-goes, entry-queued, entry-stops, exit-queued, goes-active, goes-readiness, outside-readiness}
 use Rattle.ceil_runtime.specs.Processing.{IsKept, IsSound, order_of, state_by, system_by}
 use Rattle.task_runtime.specs.Works.{IsNested}
-use Rattle.linked_task.specs.Works.{task_of}
-use Rattle.linked_task.specs.declared.task.Task.{Task}
+use Rattle.task_runtime.specs.Tasks.{task_of}
+use Rattle.task_runtime.specs.declared.task.Task.{Task}
 use Rattle.ceil_runtime.specs.declared.processor.Phase.TheVariants.{Effects}
 use Rattle.ceil_runtime.proofs.Effected.{moved-ranks, moved-sound, order-queued}
 use Rattle.ceil_runtime.proofs.Processed.{Changed, changed-tasks}

@@ -21,11 +21,11 @@ use Rattle.law_ceilings.specs.Premises.{MayExclude}
 use Rattle.ceil_runtime.specs.Reaching.{IsReached}
 use Rattle.ceil_runtime.proofs.Reaching.{opening-reached}
 use Rattle.ceil_runtime.specs.Processing.{AreAlike, IsKept, IsSound, state_by, system_by}
-use Rattle.linked_task.specs.Lefts.{vars_left, pieces_left}
+use Rattle.task_runtime.specs.Lefts.{vars_left, pieces_left}
 use Rattle.task_runtime.specs.Readies.{gate_of, readiness_of}
 use Rattle.ceil_runtime.specs.Starts.{AreOpen, CanStart, first_slept, opened, system_for}
 use Rattle.task_runtime.specs.Works.{IsNested}
-use Rattle.linked_task.specs.Works.{IsFresh, task_of}
+use Rattle.task_runtime.specs.Tasks.{IsFresh, task_of}
 use Rattle.task_runtime.specs.Insides.{inside_of}
 use Rattle.ada_tree.specs.Trees.{unit_of}
 use Rattle.ceil_runtime.specs.Gathering.{AllThreads, IsThreadOf}
@@ -36,9 +36,9 @@ use Rattle.task_runtime.specs.Written.{system_of, thread_of, timing_of}
 use Rattle.task_runtime.specs.declared.thread.Thread.{Thread}
 use Rattle.task_runtime.specs.declared.thread.Timing.{Timing}
 use Rattle.task_runtime.specs.declared.thread.Timing.TheVariants as timing
-use Rattle.linked_task.specs.declared.task.Task.{Task}
+use Rattle.task_runtime.specs.declared.task.Task.{Task}
 use Rattle.linker.specs.declared.program.LinkedUnits.{LinkedUnits}
-use Rattle.linked_task.specs.Sounds.{IsAtWork}
+use Rattle.task_runtime.specs.Sounds.{IsAtWork}
 use Rattle.ceil_runtime.specs.declared.processor.Phase.TheVariants.{Effects}
 
 module _ {A : Type 0} where

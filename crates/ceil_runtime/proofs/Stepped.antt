@@ -20,15 +20,15 @@ use Rattle.task_runtime.specs.Doing.{act_of}
 use Rattle.task_runtime.specs.Effort.{most_ends}
 use Rattle.task_runtime.specs.Readies.{is_ready, readiness_of}
 use Rattle.task_runtime.specs.Works.{EffortFalls, IsNested}
-use Rattle.linked_task.specs.Works.{task_of}
+use Rattle.task_runtime.specs.Tasks.{task_of}
 use Rattle.task_runtime.specs.Written.{reserve}
 use Rattle.task_runtime.specs.declared.effects.Act.{Act}
 use Rattle.task_runtime.specs.declared.effects.Act.TheVariants.{Finish}
 use Rattle.task_runtime.specs.declared.readiness.Readiness.{Readiness}
 use Rattle.task_runtime.specs.declared.readiness.Readiness.TheVariants as readies
-use Rattle.linked_task.specs.declared.task.Task.{Task}
-use Rattle.linked_task.specs.Sounds.{IsAtWork}
-use Rattle.linked_task.specs.Alongs.{HasDone}
+use Rattle.task_runtime.specs.declared.task.Task.{Task}
+use Rattle.task_runtime.specs.Sounds.{IsAtWork}
+use Rattle.task_runtime.specs.Alongs.{HasDone}
 use Rattle.ceil_runtime.specs.Left.{ran_effort, sleeper, sleepers}
 use Rattle.ceil_runtime.specs.Processing.{Follows, IsSound, order_of, state_by, system_by}
 use Rattle.ceil_runtime.specs.Snapshots.{AreAtWork, IsWholeAt, Snapshot, running_at, state_at, system_at}
@@ -43,7 +43,7 @@ use Rattle.ceil_runtime.proofs.Effected.{act-step, nobody-run, nobody-sound, end
 use Rattle.ceil_runtime.proofs.Effected.{finish-sound, going-differs, going-sound, is-ready, served-differs, served-run, served-sound, wait-sound}
 use Rattle.ceil_runtime.proofs.Effected.{waits-now}
 use Rattle.ceil_runtime.proofs.Released.{going-readiness, released-readiness}
-use Rattle.linked_task.proofs.Shared.AtWork.{nests-ended}
+use Rattle.task_runtime.proofs.Shared.TasksAtWork.{nests-ended}
 
 -- a processor whose task at a place had effects, with these tasks, lists and data now
 abbrev pub acted_to : Snapshot → ℕ → Option ℕ → List Task → Queues → List Variables → Snapshot

@@ -1,15 +1,15 @@
 -- A processor whose task has effects: before its piece, and after it, where what is still to be done for others is not done yet. Then the other
 -- tasks, the lists and the phase are as they were before the piece.
 use Rattle.std.specs.Prelude.{◌≡◌, ℕ, true, false, List, set, slice_get, Some}
-use Rattle.linked_task.specs.Alongs.{HasDone}
-use Rattle.linked_task.specs.Doings.{IsDeed}
+use Rattle.task_runtime.specs.Alongs.{HasDone}
+use Rattle.task_runtime.specs.Doings.{IsDeed}
 use Rattle.task_runtime.specs.Readies.{is_ready}
-use Rattle.linked_task.specs.Works.{ActsAs, task_of}
+use Rattle.task_runtime.specs.Tasks.{ActsAs, task_of}
 use Rattle.task_runtime.specs.Written.{system_of}
 use Rattle.task_runtime.specs.declared.effects.Act.{Act}
-use Rattle.linked_task.specs.declared.piece.Deed.{Deed}
-use Rattle.linked_task.specs.declared.piece.Piece.{Piece}
-use Rattle.linked_task.specs.declared.task.Task.{Task}
+use Rattle.task_runtime.specs.declared.piece.Deed.{Deed}
+use Rattle.task_runtime.specs.declared.piece.Piece.{Piece}
+use Rattle.task_runtime.specs.declared.task.Task.{Task}
 use Rattle.ceil_runtime.specs.Snapshots.{IsWholeAt, Snapshot}
 use Rattle.ceil_runtime.specs.declared.processor.Phase.TheVariants.{Effects}
 

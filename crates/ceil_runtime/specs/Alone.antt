@@ -8,7 +8,7 @@ use Rattle.ceil_runtime.specs.Left.{left}
 use Rattle.ceil_runtime.specs.Processing.{Follows, IsBelow}
 use Rattle.ceil_runtime.specs.Snapshots.{Snapshot, running_at}
 use Rattle.ceil_runtime.specs.Stepping.{steps_left}
-use Rattle.linked_task.specs.declared.task.Task.{Task}
+use Rattle.task_runtime.specs.declared.task.Task.{Task}
 use Rattle.task_runtime.specs.declared.thread.Thread.{Thread}
 
 -- up to this time nothing but the task at this place is due: no release, no arrival and no horizon comes before it

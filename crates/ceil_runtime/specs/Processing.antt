@@ -16,10 +16,10 @@ use Rattle.law_dispatching.specs.Queueing.{AreQueued, AreSleeping, places}
 use Rattle.task_runtime.specs.Libraries.{no_costs}
 use Rattle.task_runtime.specs.Readies.{is_ready}
 use Rattle.task_runtime.specs.Works.{IsNested}
-use Rattle.linked_task.specs.Works.{task_of}
+use Rattle.task_runtime.specs.Tasks.{task_of}
 use Rattle.task_runtime.specs.Written.{system_of, thread_of}
-use Rattle.linked_task.specs.declared.task.Task.{Task}
-use Rattle.linked_task.specs.declared.piece.Piece.{Piece}
+use Rattle.task_runtime.specs.declared.task.Task.{Task}
+use Rattle.task_runtime.specs.declared.piece.Piece.{Piece}
 use Rattle.ceil_runtime.specs.Reaching.{IsReached}
 use Rattle.ceil_runtime.specs.declared.processor.Phase.{Phase}
 use Rattle.ceil_runtime.specs.declared.processor.Phase.TheVariants.{Effects, Delays, Arriving, Use}

@@ -9,8 +9,8 @@ use Rattle.machine.specs.Systems.{System}
 use Rattle.machine.specs.States.{State}
 use Rattle.machine.specs.Meanings.{Running}
 use Rattle.linker.specs.declared.program.LinkedUnits.{LinkedUnits}
-use Rattle.linked_task.specs.Sounds.{IsAtWork}
-use Rattle.linked_task.specs.declared.task.Task.{Task}
+use Rattle.task_runtime.specs.Sounds.{IsAtWork}
+use Rattle.task_runtime.specs.declared.task.Task.{Task}
 use Rattle.ceil_runtime.specs.Processing.{AllTasks, IsSound, state_by, system_by}
 use Rattle.ceil_runtime.specs.Reaching.{IsReached}
 use Rattle.ceil_runtime.specs.declared.processor.Phase.{Phase}

@@ -11,14 +11,14 @@ use Rattle.machine.specs.Meanings.{Running}
 use Rattle.machine.specs.States.{first_task, first_time, opening}
 use Rattle.law_dispatching.specs.Queueing.{AreSleeping}
 use Rattle.ceil_runtime.specs.Processing.{AllTasks, IsKept}
-use Rattle.linked_task.specs.Works.{task_of}
+use Rattle.task_runtime.specs.Tasks.{task_of}
 use Rattle.task_runtime.specs.Written.{durations_of, thread_of, timing_of}
 use Rattle.task_runtime.specs.declared.thread.Thread.{Thread}
 use Rattle.linker.specs.declared.program.LinkedUnits.{LinkedUnits}
-use Rattle.linked_task.specs.Sounds.{CanWork, IsAtWork}
+use Rattle.task_runtime.specs.Sounds.{CanWork, IsAtWork}
 use Rattle.task_runtime.specs.declared.thread.Timing.{Timing}
 use Rattle.task_runtime.specs.declared.thread.Timing.TheVariants.{Periodic, Requested}
-use Rattle.linked_task.specs.declared.task.Task.{Task}
+use Rattle.task_runtime.specs.declared.task.Task.{Task}
 
 -- what runs, where these are the tasks
 abbrev pub system_for : ℕ → Costs → List units.Unit → List Thread → System

@@ -11,8 +11,8 @@ use Rattle.ceil_runtime.specs.Left.{Falls, ran_effort}
 use Rattle.ceil_runtime.specs.Shown.{snapshot_of}
 use Rattle.ceil_runtime.specs.Snapshots.{IsWholeAt, Snapshot, running_at, system_at}
 use Rattle.task_runtime.specs.Effort.{most_ends}
-use Rattle.linked_task.specs.Works.{task_of}
-use Rattle.linked_task.specs.declared.task.Task.{Task}
+use Rattle.task_runtime.specs.Tasks.{task_of}
+use Rattle.task_runtime.specs.declared.task.Task.{Task}
 use Rattle.ceil_runtime.specs.declared.processor.Phase.{Phase}
 use Rattle.ceil_runtime.specs.declared.processor.Phase.TheVariants.{Effects, Delays, Arriving, Use}
 use Rattle.ceil_runtime.specs.declared.processor.Machine.{Machine}

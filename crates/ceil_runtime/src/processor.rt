@@ -6,7 +6,7 @@ ghost use Rattle.seq_tree.specs.Lists.{first_where};
 ghost use Rattle.law_dispatching.specs.Jumping.{NoArrival};
 ghost use Rattle.ceil_runtime.specs.Starts.{first_slept};
 ghost use Rattle.ceil_runtime.specs.Turns.{last_turn};
-ghost use Rattle.linked_task.specs.Works.{task_of};
+ghost use Rattle.task_runtime.specs.Tasks.{task_of};
 ghost use Rattle.ceil_runtime.specs.Objects.{AreObjectsOf};
 ghost use Rattle.ceil_runtime.specs.Processing.{IsBelow, IsWithin};
 
@@ -17,7 +17,7 @@ use crate::threads::threads_in;
 use ada_tree::{AdaProgram, Unit};
 use arrivals_tree::{Arrival, Arrivals};
 use link_queue::Links;
-use linked_task::{Deed, Entry, Piece, Task, rooms_of, task_room};
+use task_runtime::{Deed, Entry, Piece, Task, rooms_of, task_room};
 use linker::{LinkedUnits, link_units};
 use seq_tree::{Costs, NoMemory};
 use std::alloc::Global;
@@ -254,14 +254,14 @@ impl<'a> Machine<'a> {
     ghost use Rattle.trace_tree.specs.Placed.{IsPlaced};
     ghost use Rattle.ceil_runtime.specs.Processing.{HasNoPiece, HasPiece, IsDue};
     ghost use Rattle.trace_tree.specs.declared.event.Event.TheVariants as event;
-    ghost use Rattle.linked_task.specs.declared.task.Task.{Task};
+    ghost use Rattle.task_runtime.specs.declared.task.Task.{Task};
     ghost use Rattle.std.specs.Prelude.{slice_get};
     ghost use Rattle.ceil_runtime.specs.Shown.{IsSettled, IsWhole, running_of, snapshot_of};
     ghost use Rattle.ceil_runtime.specs.Snapshots.{AreAtWork, IsWholeAt};
     ghost use Rattle.law_ceilings.specs.Premises.{MayExclude};
     ghost use Rattle.ceil_runtime.specs.Acted.{HasActed, IsActing, IsDoing, with_tasks};
     ghost use Rattle.ceil_runtime.specs.Alone.{GoesAlone, IsAlone};
-    ghost use Rattle.linked_task.specs.Doings.{StaysOutside};
+    ghost use Rattle.task_runtime.specs.Doings.{StaysOutside};
     ghost use Rattle.ceil_runtime.specs.Stepping.{HasStopped, IsStep, Nothing, Steps, StepsTelling, before_arrival};
 
     /// The opening of a program under arrivals that are accepted for it. The one error is want of memory: a failed allocation, and a limit

@@ -9,3 +9,16 @@ pub mod Progressed
 pub mod Readies
 pub mod Works
 pub mod Insides
+pub mod Slotted
+pub mod Framed
+pub mod Silences
+pub mod Bodies
+pub mod Lefts
+pub mod Settling
+pub mod Reserving
+pub mod Sounds
+pub mod Handing
+pub mod Doings
+pub mod Goings
+pub mod Tasks
+pub mod Alongs

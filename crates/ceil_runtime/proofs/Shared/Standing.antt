@@ -5,7 +5,7 @@ use Rattle.machine.specs.States as states
 use Rattle.ceil_runtime.specs.declared.processor.Machine.{Machine}
 use Rattle.ceil_runtime.specs.declared.processor.Phase.{Phase}
 use Rattle.ceil_runtime.specs.declared.processor.Phase.TheVariants.{Effects, Delays, Arriving, Use}
-use Rattle.linked_task.specs.declared.task.Task.{Task}
+use Rattle.task_runtime.specs.declared.task.Task.{Task}
 use Rattle.ceil_runtime.specs.Processing.{HoldsIn, phase_of}
 use Rattle.ceil_runtime.specs.Shown.{IsWhole, running_of}
 

@@ -1,7 +1,7 @@
 use Rattle.std.proofs.Common.{◌≡◌, drop, map}
 use Rattle.std.specs.Prelude.{option_map, ◌==◌}
 use Rattle.seq_tree.specs.Lists.{first_from, first_where}
-use Rattle.linked_task.specs.Works.{task_of}
+use Rattle.task_runtime.specs.Tasks.{task_of}
 use Rattle.ceil_runtime.proofs.processor.place_of.Given as goal
 
 -- none of the tasks so far is of the unit

@@ -1,14 +1,14 @@
 use Rattle.std.proofs.Common.{◌≡◌, arith, false, set, subst, sym, true}
-use Rattle.linked_task.specs.Works.{task_of}
+use Rattle.task_runtime.specs.Tasks.{task_of}
 use Rattle.task_runtime.specs.Written.{system_of}
 use Rattle.task_runtime.specs.declared.effects.Act.TheVariants.{Keep, Open, Print}
-use Rattle.linked_task.specs.declared.piece.Deed.TheVariants.{Own}
+use Rattle.task_runtime.specs.declared.piece.Deed.TheVariants.{Own}
 use Rattle.ceil_runtime.specs.Acted.{with_tasks}
 use Rattle.ceil_runtime.specs.Shown.{snapshot_of}
 use Rattle.ceil_runtime.specs.Stepping.{Nothing, One, Steps, StepsTelling}
 use Rattle.ceil_runtime.proofs.ActedLaws.{acted-among, acted-found, acted-within, keep-acted, open-acted, print-acted, silent-acted}
 use Rattle.ceil_runtime.proofs.Phases.{doing-piece, doing-there, telling}
-use Rattle.linked_task.proofs.Shared.AtWork.{reached-act, stays-own}
+use Rattle.task_runtime.proofs.Shared.TasksAtWork.{reached-act, stays-own}
 use Rattle.trace_tree.specs.declared.event.Event.TheVariants as event
 use Rattle.ceil_runtime.proofs.processor.Machine.act.Goals as goal
 

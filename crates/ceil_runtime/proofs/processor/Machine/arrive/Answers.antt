@@ -2,7 +2,7 @@ use Rattle.std.proofs.Common.{◌≡◌, ℕ, ap, false, map, None, subst, sym, 
 use Rattle.std.specs.Prelude.{option_map}
 use Rattle.seq_tree.specs.Lists.{first_where}
 use Rattle.machine.specs.States as states
-use Rattle.linked_task.specs.Works.{task_of}
+use Rattle.task_runtime.specs.Tasks.{task_of}
 use Rattle.ceil_runtime.specs.Shown.{snapshot_of}
 use Rattle.ceil_runtime.specs.Snapshots.{IsWholeAt}
 use Rattle.ceil_runtime.specs.Stepping.{Nothing, Steps, StepsTelling}

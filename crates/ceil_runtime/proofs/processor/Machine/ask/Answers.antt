@@ -4,7 +4,7 @@ use Rattle.std.proofs.lemmas.Option.{same_Some, slice_get_read}
 use Rattle.machine.specs.Deeds as deeds
 use Rattle.machine.specs.States.{Control}
 use Rattle.task_runtime.specs.declared.effects.Act.TheVariants as acts
-use Rattle.linked_task.specs.declared.piece.Deed.TheVariants.{Ask}
+use Rattle.task_runtime.specs.declared.piece.Deed.TheVariants.{Ask}
 use Rattle.ceil_runtime.specs.Acted.{with_tasks}
 use Rattle.ceil_runtime.specs.Shown.{snapshot_of}
 use Rattle.ceil_runtime.specs.Stepping.{Nothing, Steps}
@@ -12,7 +12,7 @@ use Rattle.ceil_runtime.proofs.ActedLaws.{acted-asks, acted-found, acted-whole, 
 use Rattle.ceil_runtime.proofs.EntrySteps.{doing-act, doing-first, stop-reached}
 use Rattle.ceil_runtime.proofs.Phases.{doing-here, doing-known, doing-piece, doing-there, telling}
 use Rattle.ceil_runtime.proofs.Reached.{among-tasks, asked-ceiling, asked-unit}
-use Rattle.linked_task.proofs.Shared.AtWork.{has-room, stays-asking}
+use Rattle.task_runtime.proofs.Shared.TasksAtWork.{has-room, stays-asking}
 use Rattle.ceil_runtime.proofs.processor.Machine.ask.Goals as goal
 
 pub index-asked-requires : goal.index-asked-requires

@@ -1,4 +1,4 @@
-use Rattle.linked_task.specs.declared.piece.Deed.TheVariants.{Own, Enter, Leave, Ask}
+use Rattle.task_runtime.specs.declared.piece.Deed.TheVariants.{Own, Enter, Leave, Ask}
 use Rattle.ceil_runtime.specs.Shown.{snapshot_of}
 use Rattle.ceil_runtime.proofs.Phases.{caller-at-work, caller-here, caller-known, doing-of}
 use Rattle.std.proofs.Common.{arith}

@@ -4,7 +4,7 @@ use Rattle.ceil_runtime.specs.declared.processor.Phase.TheVariants.{Delays}
 use Rattle.ceil_runtime.proofs.Effected.{running-free}
 use Rattle.ceil_runtime.proofs.Phases.{caller-here, in-acting, whole-acting}
 use Rattle.ceil_runtime.proofs.Stepped.{end-step}
-use Rattle.linked_task.proofs.Shared.AtWork.{nothing-due}
+use Rattle.task_runtime.proofs.Shared.TasksAtWork.{nothing-due}
 use Rattle.ceil_runtime.proofs.processor.Machine.end_effects.Goals as goal
 
 pub push_head-requires : goal.push_head-requires

@@ -7,9 +7,9 @@ use Rattle.machine.specs.States.{Object}
 use Rattle.trace_tree.specs.declared.event.Event.TheVariants as event
 use Rattle.task_runtime.specs.Fitting.{names_of}
 use Rattle.task_runtime.specs.Stacked.{vars_of}
-use Rattle.linked_task.specs.Doings.{IsEntry}
-use Rattle.linked_task.specs.Works.{task_of}
-use Rattle.linked_task.specs.declared.piece.Deed.TheVariants.{Enter}
+use Rattle.task_runtime.specs.Doings.{IsEntry}
+use Rattle.task_runtime.specs.Tasks.{task_of}
+use Rattle.task_runtime.specs.declared.piece.Deed.TheVariants.{Enter}
 use Rattle.ceil_runtime.specs.Shown.{snapshot_of}
 use Rattle.ceil_runtime.specs.Snapshots.{system_at}
 use Rattle.ceil_runtime.proofs.EntryFacts.{enters-there, found-op, found-shows, found-unit, met, met-within, place-few, same-names}
@@ -17,7 +17,7 @@ use Rattle.ceil_runtime.proofs.EntrySteps.{doing-act, doing-first, enter-step, s
 use Rattle.ceil_runtime.proofs.ObjectsKept.{changed-objects, entered-ceiling, entered-unit}
 use Rattle.ceil_runtime.proofs.Homes.{entered-names}
 use Rattle.ceil_runtime.proofs.Phases.{caller-at-work, caller-works, doing-here, doing-known, step-beside, telling}
-use Rattle.linked_task.proofs.Shared.AtWork.{has-room}
+use Rattle.task_runtime.proofs.Shared.TasksAtWork.{has-room}
 use Rattle.ceil_runtime.proofs.processor.Machine.enter.Goals as goal
 
 pub index-object-requires : goal.index-object-requires

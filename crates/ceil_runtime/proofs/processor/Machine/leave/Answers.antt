@@ -1,5 +1,5 @@
 use Rattle.std.proofs.Common.{sym, ap, ◌∙◌, refl, arith, map, take, Some}
-use Rattle.linked_task.specs.declared.piece.Deed.TheVariants.{Leave}
+use Rattle.task_runtime.specs.declared.piece.Deed.TheVariants.{Leave}
 use Rattle.ceil_runtime.specs.Shown.{snapshot_of}
 use Rattle.ceil_runtime.proofs.EntryFacts.{all-names, found-op, found-shows, leaves-there, met, met-within, place-few, same-count, same-names}
 use Rattle.ceil_runtime.proofs.EntrySteps.{leave-step}

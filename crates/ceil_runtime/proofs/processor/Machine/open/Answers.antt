@@ -13,7 +13,7 @@ use Rattle.ceil_runtime.specs.Reaching.{IsReached}
 use Rattle.ceil_runtime.specs.Starts.{AreOpen, first_slept, opened, system_for}
 use Rattle.law_ceilings.specs.Premises.{MayExclude}
 use Rattle.task_runtime.specs.declared.thread.Thread.{Thread}
-use Rattle.linked_task.specs.declared.task.Task.{Task}
+use Rattle.task_runtime.specs.declared.task.Task.{Task}
 use Rattle.ceil_runtime.proofs.Linked.{linked-here, start-at, start-known}
 use Rattle.ceil_runtime.proofs.ObjectsKept.{opened-objects}
 use Rattle.ceil_runtime.proofs.Started.{open-alike, open-free, open-next, open-none, open-reached, open-running, open-sound, slept-size}

@@ -1,7 +1,7 @@
 use Rattle.std.proofs.Common.{length, sym, ap, ◌∙◌, refl, [], ◌∷◌}
 use Rattle.std.proofs.lemmas.Option.{same_Some, slice_get_read}
 use Rattle.trace_tree.specs.declared.event.Event.TheVariants as event
-use Rattle.linked_task.specs.declared.task.Task.{Task}
+use Rattle.task_runtime.specs.declared.task.Task.{Task}
 use Rattle.ceil_runtime.proofs.processor.Machine.stop.Goals as goal
 
 pub returns-clause-machine : goal.returns-clause-machine

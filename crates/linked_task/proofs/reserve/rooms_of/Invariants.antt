@@ -1,8 +1,0 @@
-use Rattle.linked_task.specs.Reserving.{AreKnown}
-use Rattle.linked_task.proofs.reserve.rooms_of.Given as goal
-
--- what is known so far is so
-abbrev pub invariant-ops : goal.invariant-ops
-invariant-ops l = record {
-  known : AreKnown l.fn.code l.rooms.items;
-}

@@ -1,6 +1,0 @@
-use Rattle.std.proofs.Common.{◌-◌, length}
-use Rattle.linked_task.proofs.settle.+settled.Given as goal
-
--- a jump leads forwards
-abbrev pub decreases-settled : goal.decreases-settled
-decreases-settled l = length l.code.now.ins.items - l.at

@@ -1,5 +1,0 @@
-use Rattle.linked_task.proofs.Zeros.{zeros_all}
-use Rattle.linked_task.proofs.slots.Slots.new.Goals as goal
-
-pub returns-clause-here : goal.returns-clause-here
-returns-clause-here c = zeros_all c.args.count c.in_ok-values.values.items c.in_ok-values.ensures.items

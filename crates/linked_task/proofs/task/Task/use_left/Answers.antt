@@ -1,5 +1,0 @@
-use Rattle.std.proofs.Common.{inl, refl}
-use Rattle.linked_task.proofs.task.Task.use_left.Goals as goal
-
-pub returns-then-ticks-eq0-clause-uses : goal.returns-then-ticks-eq0-clause-uses
-returns-then-ticks-eq0-clause-uses c = inl (refl, refl)

@@ -82,7 +82,7 @@ asked = record { costs = costs; passive = []; shared = []; tasks = record starte
 abbrev one_request : Arrivals
 one_request = record (up_to 12) { items = record { time = 3; task = s; value = Some 7 } ∷ [] }
 
--- its arrival isn't told
+-- its arrival is missing
 no_arrival : judged asked 0 one_request (Horizon 12 ∷ []) ≡ verdict.Untold
 unfolding judged follows run_of begins is_among_served serves
 no_arrival = refl

@@ -117,7 +117,7 @@ module _ (x : Design) where
   no_memory : DeliversBackground x (Err refusal.NoMemory)
   no_memory = tt
 
--- THE MISFIT THAT IS TOLD
+-- THE MISFIT THAT IS REPORTED
 abbrev op : OpName
 op = record { object = codes "b"; op = codes "c" }
 

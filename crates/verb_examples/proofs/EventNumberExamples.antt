@@ -1,4 +1,4 @@
--- Examples: which events a line can tell: numbers at the ends of their types, eight values and nine, and places of a program.
+-- Examples: which events a line can hold: numbers at the ends of their types, eight values and nine, and places of a program.
 use Rattle.std.specs.Prelude.{ℕ, [], ◌∷◌, Some, None, codes}
 use Rattle.std.proofs.Common.{arith}
 use Rattle.seq_tree.specs.Statements.{Then, End, Null}

@@ -70,6 +70,32 @@ nothing : judged pair 0 (up_to 12) [] ≡ Times
 unfolding judged follows run_of begins is_among_served serves
 nothing = refl
 
+-- a cyclic thread that is never released
+unreleased : judged pair 0 (up_to 12) (Horizon 12 ∷ []) ≡ verdict.Cyclic p
+unfolding judged follows run_of begins is_among_served serves
+unreleased = refl
+
+-- A THREAD THAT IS REQUESTED FROM OUTSIDE
+abbrev asked : Software
+asked = record { costs = costs; passive = []; shared = []; tasks = record started { timing = Sporadic start 50 (Some 0) } ∷ [] }
+
+abbrev one_request : Arrivals
+one_request = record (up_to 12) { items = record { time = 3; task = s; value = Some 7 } ∷ [] }
+
+-- its arrival is missing
+no_arrival : judged asked 0 one_request (Horizon 12 ∷ []) ≡ verdict.Untold
+unfolding judged follows run_of begins is_among_served serves
+no_arrival = refl
+
+as_asked : judged asked 0 one_request (By 3 s (deed.Arrive (Some 7)) ∷ By 3 s (Release (Some 7)) ∷ By 8 s (deed.End 5) ∷ Horizon 12 ∷ []) ≡ Accepted 4
+unfolding judged follows run_of begins is_among_served serves
+as_asked = refl
+
+another_arrival : judged asked 0 one_request (By 3 s (deed.Arrive (Some 8)) ∷ By 3 s (Release (Some 8)) ∷ By 8 s (deed.End 5) ∷ Horizon 12 ∷ [])
+    ≡ verdict.Untold
+unfolding judged follows run_of begins is_among_served serves
+another_arrival = refl
+
 -- TWO THREADS THAT SHARE AN OBJECT
 abbrev set : OpName
 set = record { object = codes "q"; op = codes "set" }

@@ -85,7 +85,7 @@ module _ (design arrivals trace : List ℕ) where
       → CanAccept design arrivals trace → ⊥
   cannot_judge never h = never h.taken_as h.lines h.taken h.judged
 
--- what is accepted is the lines of events that the design permits, as many as are told
+-- what is accepted is the lines of events that the design permits, one line each
 module _ (x : Design) (arrivals : List ℕ) (r : Arrivals) (arrives : Arrives horizon_limit arrivals (program x) r) where
   of_events : (es : List Event) → Each (IsEvent (program x)) es
       → Permits (software x) (named_arrivals (program x) r) (named (program x) es)

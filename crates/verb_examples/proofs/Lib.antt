@@ -22,4 +22,9 @@ mod TextExamples
 mod DesignAnswers
 mod ProgramAnswers
 mod VerdictExamples
+mod SearchVerbExamples
+mod ScaleVerbExamples
+mod YesExamples
+mod BackgroundOfExamples
+mod EventNumberExamples
 mod ArrivalAnswers

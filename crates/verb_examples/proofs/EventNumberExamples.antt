@@ -7,7 +7,7 @@ use Rattle.seq_tree.specs.Operations.{Operation}
 use Rattle.ada_tree.specs.Programs.{Program, Shared, Cyclic}
 use Rattle.trace_tree.specs.declared.event.Event.TheVariants.{Release, Arrive, Enter, Leave, Request, Print, Stop, Horizon}
 use Rattle.trace_tree.specs.declared.event.Event.TheVariants as event
-use Rattle.law_trace_lines.specs.Told.{IsTicks, IsWord, IsWordWhere, AreWords, HasItsNumbers, IsEvent}
+use Rattle.law_traces.specs.Told.{IsTicks, IsWord, IsWordWhere, AreWords, HasItsNumbers, IsEvent}
 
 -- NUMBERS AT THEIR ENDS
 greatest_ticks : IsTicks 18446744073709551615

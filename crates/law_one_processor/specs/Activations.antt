@@ -1,5 +1,5 @@
 -- The activations that have ended in a trace: each release of a task, with the next end of the same task.
--- In what a run tells tasks are places of units; in a trace that was read they are names.
+-- In the events of a run tasks are places of units; in a trace that was read they are names.
 use Rattle.std.specs.Prelude.{ℕ, ◌==◌, List, [], ◌∷◌, ◌++◌, Option, Some, None, if◌then◌else◌}
 use Rattle.seq_tree.specs.Names.{Name, same_name}
 use Rattle.trace_tree.specs.declared.event.Event as machine
@@ -30,7 +30,7 @@ next_end_at unit [] = None
 next_end_at unit (event.End time task used ∷ told) = if task == unit then Some (time, used) else next_end_at unit told
 next_end_at unit (_ ∷ told) = next_end_at unit told
 
--- the activations that have ended in what a run tells
+-- the activations that have ended in a run
 abbrev pub told_activations : List machine.Event → List Ended
 told_activations [] = []
 told_activations (event.Release time task value ∷ told) = ended_by time (next_end_at task told) ++ told_activations told

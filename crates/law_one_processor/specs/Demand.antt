@@ -1,4 +1,4 @@
--- The demand of an interval: the ticks used by the activations that are released and end in it. One processor has room for no more than its length.
+-- The demand of an interval: the ticks used by the activations that are released and end in it. One processor serves no more than its length.
 -- Processor demand is that of Baruah, Rosier and Howell (1990), here of ends in place of deadlines.
 use Rattle.std.specs.Prelude.{ℕ, ◌+◌, ◌-◌, ◌≤◌, Bool, ◌&&◌, nat_le, List, [], ◌∷◌, if◌then◌else◌}
 

@@ -10,11 +10,11 @@ use Rattle.guarantee.specs.Events.{named}
 use Rattle.law_one_processor.specs.Demand.{FitOneProcessor}
 use Rattle.law_one_processor.specs.Activations.{activations, told_activations}
 
--- what a run of a program tells fits one processor
+-- the events of a run of a program fit one processor
 abbrev pub RunsFit : Type 0
 RunsFit = (p : Program) (r : Arrivals) (trace : List machine.Event) → Meaning p r trace → FitOneProcessor (told_activations trace)
 
--- so does the trace by names, where the units have different names
+-- so do the events by names, where the units have different names
 abbrev pub NamedRunsFit : Type 0
 NamedRunsFit =
     (p : Program) (r : Arrivals) (trace : List machine.Event) → MeetsRules p → Meaning p r trace → FitOneProcessor (activations (named p trace))

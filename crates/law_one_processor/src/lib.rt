@@ -2,8 +2,14 @@
 //! code runs here.
 //!
 //! The definition of what a design allows has no sentence on the ticks of several tasks together, so it allows traces for which one
-//! processor is not enough. What the processor tells is never such a trace: each tick is used by one task at most. It stands on `machine`
-//! alone and speaks of every program and all arrivals, with no premise on priorities or bounds.
+//! processor is not enough. No run of the processor is such a trace: each tick is used by one task at most. It stands on `machine`
+//! and speaks of every program and all arrivals, with no premise on priorities or bounds.
+//!
+//! Other crates may cite these proofs of it (`proofs/Shared`):
+//!
+//! - `Accounts`: which tasks are running, and the ticks that they have used and will use: how one account changes.
+//! - `Fitting`: each step of the processor keeps the accounts of its tasks, so the events of a run fit one processor.
+//! - `Programs`: the law for programs, by the places of units and by their names.
 #![tactic(auto)]
 
 ghost use Rattle.law_one_processor.specs.Laws.{NamedRunsFit, RunsFit};

@@ -1,13 +1,13 @@
 -- Accounts of tasks: which are running, and the ticks used so far. What they will still use before a time is at most the ticks up to it.
 -- One account changes at a time: it opens at a release, it closes at an end, and it takes one tick.
-use Rattle.std.specs.Prelude.{◌≡◌, ◌≢◌, ◌⊎◌, ℕ, zero, suc, ◌+◌, ◌-◌, ◌≤◌, ◌<◌, Bool, true, false, nat_le, List, [], ◌∷◌, ◌++◌, map, slice_get}
+use Rattle.std.specs.Prelude.{◌≡◌, ◌≢◌, ◌⊎◌, ℕ, zero, suc, ◌+◌, ◌-◌, ◌≤◌, ◌<◌, Bool, true, false, ◌&&◌, nat_le, List, [], ◌∷◌, ◌++◌, map, slice_get}
 use Rattle.std.specs.Prelude.{Option, Some, None, if◌then◌else◌, refl}
 use Rattle.std.proofs.Common.{sym, ◌∙◌, ap, subst, arith, inl, inr}
-use Rattle.std.proofs.lemmas.Bool.{cases_lt, true≢false}
+use Rattle.std.proofs.lemmas.Bool.{cases_lt}
 use Rattle.std.proofs.lemmas.Option.{none-some, same_Some}
 use Rattle.seq_tree.specs.Lists.{change}
-use Rattle.law_lists.proofs.Shared.Places.{map-at, map-kept}
-use Rattle.law_one_processor.specs.Demand.{Ended, is_within, demand}
+use Rattle.law_lists.proofs.Shared.Places.{map-at}
+use Rattle.law_one_processor.specs.Demand.{Ended, demand}
 use Rattle.law_one_processor.specs.Activations.{ended_by}
 
 -- what is counted of a task
@@ -60,8 +60,8 @@ dues-none b [] = refl
 dues-none b (c ∷ cs) = by c.runs (dues-none b cs)
   where
     by : (runs : Bool) → dues b (λ unit. None) cs ≡ 0 → (if runs then 0 else 0) + dues b (λ unit. None) cs ≡ 0
-    by true e = e
-    by false e = e
+    by true e = omega arith
+    by false e = omega arith
 
 pub owes-nothing : (now : ℕ) (cs : List Account) → Owes now cs (λ unit. None) []
 owes-nothing now cs = record {
@@ -116,7 +116,7 @@ dues-late b now next (c ∷ cs) h late = by c.runs (rest-late b now c.used (next
     by : (runs : Bool) → rest_of b c.used (next c.unit) ≡ 0 → dues b next cs ≡ 0
         → (if runs then rest_of b c.used (next c.unit) else 0) + dues b next cs ≡ 0
     by true none more = omega arith
-    by false none more = more
+    by false none more = omega arith
 
 pub owes-tick : (now i : ℕ) (cs : List Account) (next : NextEnds) (ws : List Ended) → Owes (now + 1) (change i ticked cs) next ws
     → Owes now cs next ws
@@ -158,7 +158,7 @@ demand-ending a b [] = omega arith
 demand-ending a b (w ∷ ws) = by (nat_le a w.released) (nat_le w.ended b) (demand-ending a b ws)
   where
     by : (s t : Bool) → demand a b ws ≤ ending b ws
-        → (if (if s then t else false) then w.used else 0) + demand a b ws ≤ (if t then w.used else 0) + ending b ws
+        → (if s && t then w.used else 0) + demand a b ws ≤ (if t then w.used else 0) + ending b ws
     by true true h = omega arith
     by true false h = omega arith
     by false true h = omega arith
@@ -168,7 +168,7 @@ demand-before : (a b now : ℕ) (o : Option (ℕ × ℕ)) (ws : List Ended) → 
 demand-before a b now None ws h = refl
 demand-before a b now (Some end) ws h = by (nat_le a now) refl
   where
-    by : (s : Bool) → nat_le a now ≡ s → (if (if s then nat_le end.0 b else false) then end.1 else 0) + demand a b ws ≡ demand a b ws
+    by : (s : Bool) → nat_le a now ≡ s → (if s && nat_le end.0 b then end.1 else 0) + demand a b ws ≡ demand a b ws
     by true e = absurd (grind arith)
     by false e = omega arith
 

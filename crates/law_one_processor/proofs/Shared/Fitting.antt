@@ -1,8 +1,8 @@
--- Each step of the processor keeps the accounts of its tasks, so what a run tells fits one processor.
--- A claim at a state, with what is told from there on, is carried back over the step before it, from the stop of the run to its opening.
+-- Each step of the processor keeps the accounts of its tasks, so the events of a run fit one processor.
+-- A claim at a state, with the events from there on, is carried back over the step before it, from the stop of the run to its opening.
 use Rattle.std.specs.Prelude.{◌≡◌, ℕ, zero, suc, ◌+◌, ◌-◌, Bool, true, false, ◌&&◌, ◌==◌, nat_lt, List, [], ◌∷◌, ◌++◌, map, slice_get, Option, Some, None}
 use Rattle.std.specs.Prelude.{if◌then◌else◌, refl}
-use Rattle.std.proofs.Common.{sym, ◌∙◌, ap, subst}
+use Rattle.std.proofs.Common.{sym, ◌∙◌, subst}
 use Rattle.std.proofs.lemmas.Bool.{and_parts}
 use Rattle.seq_tree.specs.Lists.{change, first_where}
 use Rattle.seq_tree.specs.Variables.{Variables}
@@ -16,8 +16,8 @@ use Rattle.machine.specs.Deeds.{Act, Silent, Print, Enter, Leave, Ask, Keep, Ope
 use Rattle.machine.specs.States.{State, Task, Phase, Effects, Delays, Arriving, Use, Readiness, Asleep, Waiting, Ready, Resource, Object, Control, Held}
 use Rattle.machine.specs.States.{shut}
 use Rattle.machine.specs.Dispatch.{dispatched}
-use Rattle.machine.specs.Releases.{Next, after, going, next_time, parameter, released, release_task, release, is_waiting, serve_task, serve}
-use Rattle.machine.specs.Effects.{ceiling_of, inside_now, outside_by, outside_now, lent, stopped_at, entered_at, entry, exit, go, keep, open_gate}
+use Rattle.machine.specs.Releases.{Next, going, next_time, parameter, released, release_task, release, is_waiting, serve_task, serve}
+use Rattle.machine.specs.Effects.{ceiling_of, inside_now, outside_by, outside_now, lent, stopped_at, entered_at, entry, exit}
 use Rattle.machine.specs.Effects.{ended, resting, acted}
 use Rattle.machine.specs.Steps.{goes_to, effect_of, effect_at, effect_step, is_due, delay_step, horizon_step, arrive_at, arrival_step, use_step}
 use Rattle.machine.specs.Steps.{step_in, step}
@@ -29,7 +29,7 @@ use Rattle.law_one_processor.specs.Activations.{ended_by}
 use Rattle.law_one_processor.proofs.Shared.Accounts.{Account, opened, closed, ticked, NextEnds, Owes, AreApart, owes-nothing, owes-idle, owes-tick}
 use Rattle.law_one_processor.proofs.Shared.Accounts.{owes-release, owes-end}
 
--- the next ends and the activations of what a run tells, by which units count as one
+-- the next ends and the activations of the events of a run, by which units count as one
 abbrev pub next_by : (ℕ → ℕ → Bool) → List Event → NextEnds
 next_by alike [] unit = None
 next_by alike (event.End time task used ∷ told) unit = if alike task unit then Some (time, used) else next_by alike told unit
@@ -93,7 +93,7 @@ module _ (alike : ℕ → ℕ → Bool) (alike-self : (unit : ℕ) → alike uni
   abbrev pub Separate : List Account → Type 0
   Separate cs = AreApart alike alike-self (map (λ c. c.unit) cs)
 
-  -- what is claimed at a time of accounts, with what is told from there on
+  -- what is claimed at a time of accounts, with the events from there on
   abbrev Claims : ℕ → List Account → List Event → Type 0
   Claims now cs told = Separate cs → Owes now cs (next_by alike told) (ends_by alike told)
 
@@ -118,8 +118,8 @@ module _ (alike : ℕ → ℕ → Bool) (alike-self : (unit : ℕ) → alike uni
   release-carries y i s rests = by (slice_get s.tasks i) refl
     where
       by : (o : Option Task) → slice_get s.tasks i ≡ o → Carries s (release_task y i o s)
-      by None at more h = h
-      by (Some t) at more h apart =
+      by None at = λ more h. h
+      by (Some t) at = λ more h apart.
           let opens = map-changed account i (released y.costs) opened s.tasks (released-account y.costs) in
           owes-release s.time i (accounts s.tasks) (account t) (next_by alike more) (ends_by alike more) (map-at account s.tasks i t at) (rests t at)
           (changed-owes s.time i opened (accounts s.tasks) more (λ c. refl) (subst (λ x. Claims s.time x more) opens h) apart)
@@ -128,7 +128,7 @@ module _ (alike : ℕ → ℕ → Bool) (alike-self : (unit : ℕ) → alike uni
   serve-carries y i s = by (slice_get s.tasks i) refl
     where
       by : (o : Option Task) → slice_get s.tasks i ≡ o → Carries s (serve_task y i o s)
-      by None at more h = h
+      by None at = λ more h. h
       by (Some t) at = served (is_waiting t.readiness && t.gate.open') refl
         where
           rests : is_waiting t.readiness ≡ true → (u : Task) → slice_get s.tasks i ≡ Some u → is_ready u.readiness ≡ false
@@ -137,7 +137,7 @@ module _ (alike : ℕ → ℕ → Bool) (alike-self : (unit : ℕ) → alike uni
 
           served : (b : Bool) → (is_waiting t.readiness && t.gate.open') ≡ b → Carries s (if b then release y i s else (s, []))
           served true e = release-carries y i s (rests (and_parts (is_waiting t.readiness) t.gate.open' e).0)
-          served false e more h = h
+          served false e = λ more h. h
 
   -- the entry of a section
   entered-carries : (y : System) (i : ℕ) (section : Resource) (told : List Event) (vars : Variables) (ps : List Piece) (s : State)
@@ -160,7 +160,7 @@ module _ (alike : ℕ → ℕ → Bool) (alike-self : (unit : ℕ) → alike uni
   entry-carries y i t section told vars ps s unheard = by (nat_lt (ceiling_of y section) t.active)
     where
       by : (b : Bool) → Carries s (if b then stopped_at y t section s else entered_at y i section told vars ps s)
-      by true more h = h
+      by true = λ more h. h
       by false = entered-carries y i section told vars ps s unheard
 
   go-accounts : (y : System) (i : ℕ) (vars : Variables) (ps : List Piece) (ts : List Task)
@@ -175,26 +175,26 @@ module _ (alike : ℕ → ℕ → Bool) (alike-self : (unit : ℕ) → alike uni
   -- what the running task does
   acted-carries : (y : System) (i : ℕ) (t : Task) (act : Act) (vars : Variables) (ps : List Piece) (s : State) → slice_get s.tasks i ≡ Some t
       → Carries s (acted y i t act vars ps s)
-  acted-carries y i t Silent vars ps s at more h = same-claims s.time (accounts s.tasks) _ more (go-accounts y i vars ps s.tasks) h
-  acted-carries y i t (Print v) vars ps s at more h = same-claims s.time (accounts s.tasks) _ more (go-accounts y i vars ps s.tasks) h
+  acted-carries y i t Silent vars ps s at = λ more h. same-claims s.time (accounts s.tasks) _ more (go-accounts y i vars ps s.tasks) h
+  acted-carries y i t (Print v) vars ps s at = λ more h. same-claims s.time (accounts s.tasks) _ more (go-accounts y i vars ps s.tasks) h
   acted-carries y i t (Enter object op values) vars ps s at = entry-carries y i t (Object object) _ vars ps s (λ more h. h)
-  acted-carries y i t (Leave object op values data') vars ps s at more h =
+  acted-carries y i t (Leave object op values data') vars ps s at = λ more h.
       same-claims s.time (accounts s.tasks) _ more (exit-accounts y i vars ps s.tasks) h
   acted-carries y i t (Ask task) vars ps s at = entry-carries y i t (Control task) [] vars ps s (λ more h. h)
-  acted-carries y i t (Keep task v) vars ps s at more h =
+  acted-carries y i t (Keep task v) vars ps s at = λ more h.
       same-claims s.time (accounts s.tasks) _ more
       (map-kept account task (λ u. record u { gate = record u.gate { value = v } }) (change i (going y.costs vars ps) s.tasks) (λ u. refl)
       ∙ go-accounts y i vars ps s.tasks)
       h
-  acted-carries y i t (Open task) vars ps s at more h =
+  acted-carries y i t (Open task) vars ps s at = λ more h.
       same-claims s.time (accounts s.tasks) _ more
       (map-kept account task (λ u. record u { gate = record u.gate { open' = true } }) (change i (going y.costs vars ps) s.tasks) (λ u. refl)
       ∙ go-accounts y i vars ps s.tasks)
       h
-  acted-carries y i t (Served task v) vars ps s at more h =
+  acted-carries y i t (Served task v) vars ps s at = λ more h.
       same-claims s.time (accounts s.tasks) _ ((serve y task (exit y i vars ps s)).1 ++ more) (exit-accounts y i vars ps s.tasks)
       (serve-carries y task (exit y i vars ps s) more h)
-  acted-carries y i t Finish vars ps s at more h apart =
+  acted-carries y i t Finish vars ps s at = λ more h apart.
       let s' : State = record s { tasks = change i (ended vars) s.tasks } in
       let told : List Event = (serve y i s').1 ++ more in
       let closes = map-changed account i (ended vars) closed s.tasks (ended-account vars) in
@@ -203,27 +203,27 @@ module _ (alike : ℕ → ℕ → Bool) (alike-self : (unit : ℕ) → alike uni
       (changed-owes s.time i closed (accounts s.tasks) told (λ c. refl) (subst (λ x. Claims s.time x told) closes served) apart)
 
   effect-carries : (y : System) (o : Option ℕ) (s : State) → Carries s (effect_step y o s)
-  effect-carries y None s more h = h
+  effect-carries y None s = λ more h. h
   effect-carries y (Some i) s = by (slice_get s.tasks i) refl
     where
       by : (o : Option Task) → slice_get s.tasks i ≡ o → Carries s (effect_at y i o s)
-      by None at more h = h
+      by None at = λ more h. h
       by (Some t) at = pieced t.pieces
         where
           pieced : (qs : List Piece) → Carries s (effect_of y i t qs s)
-          pieced [] more h = h
+          pieced [] = λ more h. h
           pieced (p ∷ ps) = acting (t.left == 0)
             where
               acting : (b : Bool) → Carries s
                   (if b then acted y i t (done y p t.vars ps).act (done y p t.vars ps).vars (done y p t.vars ps).pieces s else goes_to Delays s)
               acting true = acted-carries y i t (done y p t.vars ps).act (done y p t.vars ps).vars (done y p t.vars ps).pieces s at
-              acting false more h = h
+              acting false = λ more h. h
 
   delay-carries : (y : System) (s : State) → Carries s (delay_step y (first_where (λ t. is_due s.time t.readiness) s.tasks) s)
   delay-carries y s = by (first_where (λ t. is_due s.time t.readiness) s.tasks) refl
     where
       by : (o : Option (ℕ × Task)) → first_where (λ t. is_due s.time t.readiness) s.tasks ≡ o → Carries s (delay_step y o s)
-      by None e more h = h
+      by None e = λ more h. h
       by (Some sleeper) e = release-carries y sleeper.0 s rests
         where
           rests : (u : Task) → slice_get s.tasks sleeper.0 ≡ Some u → is_ready u.readiness ≡ false
@@ -273,14 +273,14 @@ module _ (alike : ℕ → ℕ → Bool) (alike-self : (unit : ℕ) → alike uni
       phased Use = use-carries y (dispatched s.tasks s.orders) s
 
       by : (b : Bool) → Carries s (if b then (s, []) else step_in s.phase y s)
-      by true more h = h
+      by true = λ more h. h
       by false = phased s.phase
 
   -- so many steps
   pub run-owes : (y : System) (n : ℕ) (s : State) → Holds s (run y n s).1
-  run-owes y zero s apart = owes-nothing s.time (accounts s.tasks)
+  run-owes y zero s = λ apart. owes-nothing s.time (accounts s.tasks)
   run-owes y (suc n) s = step-carries y s (run y n (step y s).0).1 (run-owes y n (step y s).0)
 
-  -- what they tell fits one processor
+  -- their events fit one processor
   pub run-fits : (y : System) (n : ℕ) (s : State) → Separate (accounts s.tasks) → FitOneProcessor (ends_by alike (run y n s).1)
   run-fits y n s apart a b h = (run-owes y n s apart).fit a b

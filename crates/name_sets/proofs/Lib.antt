@@ -1,6 +1,6 @@
 pub mod Shared
+pub mod EndSteps
 mod Examples
 pub mod ListSteps
 pub mod PlaceSteps
-pub mod SlotSteps
 pub mod TableSteps

@@ -11,9 +11,3 @@ module _ {P : Type 0} (look : P → Option ℕ) where
   put_law true false p before old new v is same made =
       ap (option_and_then look) is ∙ made ∙ ap (option_and_then look) (sym (same refl))
   put_law false second p before old new v is same made = ap (option_and_then look) is
-
-  -- the numbers of an object stayed, though they stand elsewhere
-  pub kept_law : (first : Bool) (before old new : Option P) (v : P) → new ≡ (if first then Some v else old) → (first ≡ true → old ≡ before)
-      → look v ≡ option_and_then look before → option_and_then look new ≡ option_and_then look old
-  kept_law true before old new v is same made = ap (option_and_then look) is ∙ made ∙ ap (option_and_then look) (sym (same refl))
-  kept_law false before old new v is same made = ap (option_and_then look) is

@@ -2,6 +2,4 @@ pub mod FirstPlaces
 pub mod OpPlaces
 pub mod Places
 pub mod Sets
-pub mod Slots
 pub mod Tables
-pub mod Words

@@ -14,8 +14,6 @@ mod op_places;
 mod op_table;
 mod places;
 mod sets;
-mod slots;
-mod word;
 
 pub use name_table::NameTable;
 pub use op_places::OpPlaces;

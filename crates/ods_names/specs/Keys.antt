@@ -1,16 +1,12 @@
 -- Sets of names by two numbers and a further name, as tests.
 -- A set is kept in the order of the numbers, then in that of the ends of the names, then in that of the bytes of the names.
-use Rattle.std.specs.Prelude.{ℕ, ◌+◌, ◌*◌, ◌^◌, ◌%◌, Bool, List, [], ◌∷◌}
+use Rattle.std.specs.Prelude.{ℕ, Bool}
 use Rattle.std.specs.Ordering.{nat_cmp, ordering_then}
 use Rattle.std.specs.Cmp.Lexicographic.{slice_cmp}
 use Rattle.std.specs.BTreeSet.{contains_by}
+use Rattle.name_sets.specs.Places.{number_behind}
 use Rattle.seq_tree.specs.Names.{Name}
 use Rattle.ods_names.specs.declared.keys.Keys.{Keys}
-
--- a number with these bytes behind its own, of which the last eight count
-abbrev pub number_behind : ℕ → List ℕ → ℕ
-number_behind n [] = n
-number_behind n (b ∷ bs) = number_behind ((n * 256 % 2 ^ 64 + b) % 2 ^ 64) bs
 
 -- the last eight bytes of a name, as a number
 unfoldable pub end_of : Name → ℕ

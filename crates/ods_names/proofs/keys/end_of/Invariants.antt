@@ -1,5 +1,5 @@
 use Rattle.std.proofs.Common.{◌≡◌, drop}
-use Rattle.ods_names.specs.Keys.{number_behind}
+use Rattle.name_sets.specs.Places.{number_behind}
 use Rattle.ods_names.proofs.keys.end_of.Given as goal
 
 -- the bytes left lead to the number of all

@@ -3,7 +3,8 @@
 //!
 //! They stand on `law_runs`, which says of every design that the runs of its program are right, on `law_texts`, which says that the
 //! text of every design is accepted as its program, and on the reader of Ada texts, by which a text is accepted as one program alone. Each is
-//! the contract of a public function with an empty body. `generated_text_replays_right` carries the promise.
+//! the contract of a public function with an empty body. `generated_text_replays_right` carries the promise, and
+//! `arranged_text_replays_right` that of a text by any ranking of the design's threads.
 //!
 //! Other crates may cite these proofs of it (`proofs/Shared`):
 //!
@@ -13,4 +14,6 @@
 
 mod replays;
 
-pub use replays::{generated_text_replays_right, replay_is_right, replay_serves};
+pub use replays::{
+    arranged_text_replays_right, generated_text_replays_right, replay_is_right, replay_serves,
+};

@@ -17,12 +17,14 @@ ghost use Rattle.guarantee.specs.Events.{named};
 ghost use Rattle.guarantee.specs.Allowed.{Allows};
 ghost use Rattle.guarantee.specs.Bounded.{IsBounded};
 ghost use Rattle.rt_response.specs.declared.rows.Bound.{Bound};
-ghost use Rattle.analysis.specs.Tables.{table};
+ghost use Rattle.analysis.specs.Tables.{table, table_for};
 ghost use Rattle.rt_response.specs.Response.{Fits};
 ghost use Rattle.guarantee.specs.Arrivals.{named_arrivals};
 ghost use Rattle.guarantee.specs.Programs.{program, responses, text};
 ghost use Rattle.seq_tree.specs.Limits.{ada_limit};
 ghost use Rattle.law_chain_bounds.specs.Served.{Serves};
+ghost use Rattle.law_designs.specs.Rankings.{IsRanking, responses_by};
+ghost use Rattle.law_texts.specs.Ranked.{text_by};
 
 /// What a replay tells of a text that is accepted as the program of a design is allowed by the design and within its bounds.
 ///
@@ -57,4 +59,16 @@ pub fn generated_text_replays_right()
         → Reads bytes x → MeetsRules x → Fits (table (flat (in_ticks x))).rows v → length (text (in_ticks x) v) ≤ ada_limit
         → Accepts (text (in_ticks x) v) p → IsAccepted limit p r → Meaning p r told
         → Allows (in_ticks x) (named_arrivals p r) (named p told) × IsBounded (responses (flat (in_ticks x)) v) r.until (named p told) }
+{}
+
+/// What a replay tells of the text of a design by a ranking of its threads, by whatever program it is accepted as, is allowed by the design and
+/// within its bounds by that ranking.
+///
+/// The premises are those of `generated_text_replays_right`, over the ranking `ps` in the place of deadline-monotonic priorities.
+pub fn arranged_text_replays_right()
+    ensures { (limit : ℕ) (x : Design) (bytes : List ℕ) (ps : List ℕ) (v : List Bound) (p : Program) (r : Arrivals) (told : List Event)
+        → Reads bytes x → MeetsRules x → IsRanking (flat (in_ticks x)) ps → Fits (table_for (flat (in_ticks x)) ps).rows v
+        → length (text_by (in_ticks x) ps v) ≤ ada_limit
+        → Accepts (text_by (in_ticks x) ps v) p → IsAccepted limit p r → Meaning p r told
+        → Allows (in_ticks x) (named_arrivals p r) (named p told) × IsBounded (responses_by (flat (in_ticks x)) ps v) r.until (named p told) }
 {}

@@ -19,7 +19,10 @@ use Rattle.law_orders.specs.Orders.{IsOrder, priorities_by, rows_by}
 use Rattle.law_orders.proofs.Shared.OrderPlaces.{order-within}
 use Rattle.law_orders.proofs.Shared.OrderRankings.{order-ranking}
 use Rattle.law_orders.proofs.Shared.OrderRows.{rows-long, long}
-use Rattle.arranging.specs.Arrangements.{flat_text_by, HasRoomFor}
+use Rattle.seq_tree.specs.Limits.{ada_limit}
+use Rattle.priority_search.specs.Searches.{IsFound}
+use Rattle.priority_search.specs.declared.found.Found.{Found}
+use Rattle.arranging.specs.Arrangements.{flat_text_by, HasRoomFor, IsArranged, IsArrangedText, IsLongText}
 
 -- what holds of each item holds at each place
 pub index-in : (P : ℕ → Type 0) (xs : List ℕ) → ((n : ℕ) → IsIn n xs → P n) → EachIndex xs (λ k. P (slice_index xs k))
@@ -87,3 +90,23 @@ made-by first f o qs r v w p before behind same ranked placed bounds headed made
     ∙ ap (λ q. text-for first f q o w) ranked ∙ ap (λ s. text-for first f (ranks_for f qs) s w) placed
     ∙ ap (text-for first f (ranks_for f qs) (table_for f qs).places) bounds
     ∙ ap (λ zs. flat_text_by first f zs v) same
+
+-- what was found is an order with its bounds
+arranged-of : (f : Flat) (found : Found) → IsFound f found → IsArranged f found.order.items found.bounds.items
+arranged-of f found h = record { external = h.external; is_order = h.order; filled = h.filled; least = h.least }
+
+pub short-of : (first : ℕ) (f : Flat) (found : Found) (text : List ℕ) → IsFound f found
+    → text ≡ flat_text_by first f (priorities_by f found.order.items) found.bounds.items → length text ≤ ada_limit → IsArrangedText first f text
+short-of first f found text h made short = record {
+  order = found.order.items;
+  bounds = found.bounds.items;
+  arranged = arranged-of f found h;
+  made = made;
+  short = short;
+}
+
+pub long-of : (first : ℕ) (f : Flat) (found : Found) (text : List ℕ) → IsFound f found
+    → text ≡ flat_text_by first f (priorities_by f found.order.items) found.bounds.items → ada_limit < length text → IsLongText first f
+long-of first f found text h made long =
+    let P : List ℕ → Type 0 = λ z. ada_limit < length z in
+    record { order = found.order.items; bounds = found.bounds.items; arranged = arranged-of f found h; long = subst P made long }

@@ -1,6 +1,6 @@
 -- The text of a flat design by the priority order that is found for it, by cases.
 -- The order is filled from its lowest place upwards (Audsley 1991); priorities and ceilings are those of ISO/IEC 8652:2012, D.1 and D.3.
-use Rattle.std.specs.Prelude.{◌≡◌, ℕ, ◌+◌, ◌-◌, ◌≤◌, ◌<◌, ◌++◌, max, List, length, Vec, Result, Ok, Err}
+use Rattle.std.specs.Prelude.{◌≡◌, ℕ, ◌+◌, ◌-◌, ◌≤◌, ◌<◌, ◌++◌, max, List, length, Result, Ok, Err}
 use Rattle.seq_tree.specs.Limits.{ada_limit}
 use Rattle.seq_tree.specs.Layout.{layout}
 use Rattle.ods_tree.specs.Flats.{Flat}
@@ -53,6 +53,6 @@ IsNotArranged first f (NotFound why) = IsNotFound f why
 IsNotArranged first f Long = IsLongText first f
 
 -- what an answer says
-abbrev pub Arranges : ℕ → Flat → Result (Vec ℕ) NotArranged → Type 0
-Arranges first f (Ok text) = IsArrangedText first f text.items
-Arranges first f (Err why) = IsNotArranged first f why
+abbrev pub Arranges : {X : Type 0} → (X → List ℕ) → ℕ → Flat → Result X NotArranged → Type 0
+Arranges view first f (Ok text) = IsArrangedText first f (view text)
+Arranges view first f (Err why) = IsNotArranged first f why

@@ -58,7 +58,7 @@ pub fn arrange(alloc: Global, flat: &Flat, first: u32) -> Result<Vec<u8>, NotArr
     requires sound { IsSound (flat_of flat.now) }
     requires first { 1 ≤ first }
     requires room { HasRoomFor first (flat_of flat.now) }
-    ensures { Arranges first (flat_of flat.now) result }
+    ensures { Arranges (λ v. v.items) first (flat_of flat.now) result }
 {
     let found = search(alloc, flat)?;
     let text = text_by(alloc, flat, found, first)?;

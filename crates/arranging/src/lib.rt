@@ -6,7 +6,7 @@
 #![tactic(auto)]
 
 mod arranged;
-mod arranging;
+mod making;
 
 pub use arranged::NotArranged;
-pub use arranging::arrange;
+pub use making::arrange;

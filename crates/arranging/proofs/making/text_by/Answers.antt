@@ -7,7 +7,7 @@ use Rattle.law_orders.proofs.Shared.OrderRankings.{priorities-are, ranks-by}
 use Rattle.law_orders.proofs.Shared.OrderRows.{places-are, priorities-long}
 use Rattle.priority_search.proofs.Shared.NextSteps.{order-few}
 use Rattle.arranging.proofs.ArrangedTexts.{places-in, bounds-long, threads-small, shared-small, obcs-small, made-by}
-use Rattle.arranging.proofs.arranging.text_by.Goals as goal
+use Rattle.arranging.proofs.making.text_by.Goals as goal
 
 pub priorities_up_to-requires : goal.priorities_up_to-requires
 priorities_up_to-requires c =

@@ -1,7 +1,7 @@
 use Rattle.std.proofs.Common.{arith}
 use Rattle.ods_tree.specs.Trees.{flat_of}
 use Rattle.arranging.proofs.ArrangedTexts.{short-of, long-of}
-use Rattle.arranging.proofs.arranging.arrange.Goals as goal
+use Rattle.arranging.proofs.making.arrange.Goals as goal
 
 pub returns-then-len-gt-MOST_BYTES : goal.returns-then-len-gt-MOST_BYTES
 returns-then-len-gt-MOST_BYTES c =

@@ -12,12 +12,8 @@ use Rattle.hood_io.specs.Sinks.{Appends, Puts}
 use Rattle.hood_io.proofs.Shared.Appending.{appends-none}
 use Rattle.ods_tree.specs.Flats.{Flat, Thread}
 use Rattle.rt_response.specs.declared.rows.Bound.{Bound}
-use Rattle.rt_response.specs.declared.rows.ThreadRow.{ThreadRow}
-use Rattle.analysis.specs.Ceilings.{Ranks, ranks_for}
 use Rattle.analysis.specs.Sound.{IsSound}
-use Rattle.analysis.specs.Tables.{ThreadTable, table_for}
-use Rattle.law_orders.specs.Orders.{IsOrder, priority_in, priorities_by, ranks_by, rows_by}
-use Rattle.law_orders.proofs.Shared.OrderRows.{places-are}
+use Rattle.law_orders.specs.Orders.{IsOrder, priority_in, priorities_by}
 use Rattle.design_bounds.proofs.Shared.RowLaws.{there, not-there}
 use Rattle.priority_search.proofs.Shared.NextSteps.{order-few}
 use Rattle.trace_text.specs.declared.bound.NamedBound.{NamedBound}

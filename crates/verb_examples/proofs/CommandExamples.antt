@@ -81,7 +81,7 @@ start = record {
 abbrev usage_line : List ℕ
 usage_line =
     codes "usage: hrthood check D | analyse D | format D | generate D | replay A R | verify D R | sample N | background D | accepts D R T"
-    ++ codes " | search D | scale D | explain D\n"
+    ++ codes " | search D | scale D | explain D | arrange D\n"
 
 usage : Ends Usage None start (record start { err = Some usage_line })
 usage = (refl, refl, inl refl)

@@ -11,6 +11,10 @@ const FOUND: &str = "words: search d
 const REFUSED: &str = "words: search d
     status: refused";
 
+/// What rows of designs that are refused have where a text is asked for.
+const UNARRANGED: &str = "words: arrange d
+    status: refused";
+
 /// Designs that pass under some order.
 const ORDERED: &[&str] = &[
     "name: a jitter for which the order of deadlines fails
@@ -59,4 +63,11 @@ fn orders_are_searched(rt: HostRuntime) {
     run_table(&rt, alloc, FOUND, by_deadline());
     run_table(&rt, alloc, REFUSED, UNORDERED);
     run_table(&rt, alloc, REFUSED, untaken())
+}
+
+#[test]
+fn what_has_no_order_has_no_text(rt: HostRuntime) {
+    let alloc = rt.alloc();
+    run_table(&rt, alloc, UNARRANGED, UNORDERED);
+    run_table(&rt, alloc, UNARRANGED, untaken())
 }

@@ -522,7 +522,7 @@ pub const TRACE: &str =
 /// Words that are no command.
 const NO_COMMAND: &str = "status: usage
     err: usage: hrthood check D | analyse D | format D | generate D | replay A R | verify D R | sample N | background D | \
-        accepts D R T | search D | scale D | explain D";
+        accepts D R T | search D | scale D | explain D | arrange D";
 
 /// A task with a passive operation that never assigns what it hands out.
 const GIVES_NOTHING: &str = "heads: package p is procedure f (w : out word); end p;

@@ -11,12 +11,14 @@ use Rattle.rt_response.specs.Response.{IsLeastVector}
 use Rattle.analysis.specs.Priorities.{priorities_of}
 use Rattle.analysis.specs.Tables.{table, table_for}
 use Rattle.arrivals_tree.specs.Arrived.{horizon_limit}
-use Rattle.design_rules.specs.Rules.{AreMet}
+use Rattle.ods_tree.specs.Reading.{Reads}
+use Rattle.design_rules.specs.Rules.{AreMet, MeetsRules}
 use Rattle.design_bounds.proofs.Shared.CheckedDesigns.{flat-of}
 use Rattle.law_designs.proofs.Shared.RankRanges.{room}
 use Rattle.law_designs.proofs.Shared.SoundDesigns.{flat-sound}
 use Rattle.law_orders.specs.Orders.{IsOrder, priorities_by, rows_by}
 use Rattle.law_orders.proofs.Shared.DeadlineFound.{deadline-found}
+use Rattle.law_orders.proofs.Shared.DeadlineOrders.{deadline-order}
 use Rattle.law_orders.proofs.Shared.OrderRankings.{order-ranking}
 use Rattle.law_runs.specs.Ranked.{GuaranteedBy}
 use Rattle.law_texts.specs.Ranked.{text_by}
@@ -32,13 +34,14 @@ use Rattle.hrthood_top.specs.declared.arrange.ArrangeRefusal.TheVariants.{Unorde
 use Rattle.hrthood_top.specs.declared.search.SearchRefusal.{SearchRefusal}
 use Rattle.hrthood_top.specs.declared.search.SearchRefusal.TheVariants as search
 use Rattle.hrthood_top.specs.Arrangements.{ordered_text, IsArrangedFor, HasLongArrangement, RefusesArranging, RefusesArrangement, CanArrange}
-use Rattle.hrthood_top.specs.Arrangements.{of_arrange, WritesAsGenerated}
+use Rattle.hrthood_top.specs.Arrangements.{of_arrange, WritesAsGenerated, CanWhereGenerated}
 use Rattle.hrthood_top.specs.Searches.{CanSearch, RefusesSearch, RefusesOrder}
 use Rattle.hrthood_top.specs.Writing.{IsMade}
 use Rattle.hrthood_top.proofs.GenerateLaws.{one_least}
 use Rattle.hrthood_top.proofs.OneDesign.{one-design}
 use Rattle.hrthood_top.proofs.OneOrder.{passes-so}
 use Rattle.hrthood_top.proofs.SearchLaws.{not_refused, one_refusal}
+use Rattle.hrthood_top.proofs.Taken.{one-taken}
 use Rattle.hrthood_top.proofs.VerbLaws.{IsExactOf}
 
 -- room for the priorities of a design that meets the rules, by any ranking
@@ -102,6 +105,10 @@ arranged-as view bytes x (Err (Refused (Unordered r))) taken h = unordered-for b
 arranged-as view bytes x (Err (Refused Long)) taken h = long-for bytes x taken h
 arranged-as view bytes x (Err NoMemory) taken h = tt
 
+-- a design that meets the rules is taken, in ticks
+taken-of : (bytes : List ℕ) (x : designs.Design) → Reads bytes x → MeetsRules x → IsTakenAs bytes (in_ticks x)
+taken-of bytes x reads meets = record { design = x; reads = reads; meets = meets; ticked = refl }
+
 -- an order that is found is the one
 one-arranged : (x : designs.Design) (a b : List ℕ) (v u : List Bound) → AreMet x (in_ticks x) → IsArranged (flat (in_ticks x)) a v
     → IsArranged (flat (in_ticks x)) b u → (a ≡ b) × (v ≡ u)
@@ -111,17 +118,18 @@ one-arranged x a b v u met p q =
     let L : List ℕ → Type 0 = λ o. IsLeastVector (rows_by f o) v in
     (same, one_least (rows_by f b) v u (subst L same p.least) q.least)
 
+-- what can be arranged has no text by the order that is filled that is too long
 not_long : (bytes : List ℕ) → CanArrange bytes → HasLongArrangement bytes → ⊥
 not_long bytes w h =
-    let one : h.design ≡ w.design = one-design bytes h.design w.design h.reads w.reads in
-    let P : designs.Design → Type 0 = λ z. IsArranged (flat (in_ticks z)) h.order h.bounds in
-    let both = one-arranged w.design h.order w.order h.bounds w.bounds w.meets (subst P one h.arranged) w.arranged in
-    let equal : length (ordered_text (in_ticks h.design) h.order h.bounds) ≡ length (ordered_text (in_ticks w.design) w.order w.bounds) =
-    ap (λ z. length (ordered_text (in_ticks z) h.order h.bounds)) one ∙ ap (λ o. length (ordered_text (in_ticks w.design) o h.bounds)) both.0
-    ∙ ap (λ v. length (ordered_text (in_ticks w.design) w.order v)) both.1 in
-    let long = h.long in let short = w.short in omega (arith, equal, long, short)
+    let one : in_ticks h.design ≡ w.search.design = one-taken bytes (in_ticks h.design) w.search.design (taken-of bytes h.design h.reads h.meets)
+    w.search.taken in
+    let P : designs.Design → Type 0 = λ z. IsArranged (flat z) h.order h.bounds in
+    let short : length (ordered_text w.search.design h.order h.bounds) ≤ ada_limit = w.short h.order h.bounds (subst P one h.arranged) in
+    let equal : length (ordered_text (in_ticks h.design) h.order h.bounds) ≡ length (ordered_text w.search.design h.order h.bounds) =
+    ap (λ z. length (ordered_text z h.order h.bounds)) one in
+    let long = h.long in omega (arith, equal, long, short)
 
--- what can be arranged can be searched
+-- what has an order that is filled can be searched
 can-search : (bytes : List ℕ) (x : designs.Design) (order : List ℕ) (bounds : List Bound) → IsTakenAs bytes (in_ticks x)
     → IsArranged (flat (in_ticks x)) order bounds → CanSearch bytes
 can-search bytes x order bounds taken a = record {
@@ -134,16 +142,13 @@ can-search bytes x order bounds taken a = record {
 }
 
 able : (bytes : List ℕ) → CanArrange bytes → (r : ArrangeRefusal) → RefusesArrangement bytes r → ⊥
-able bytes w (Unordered r) h =
-    not_refused bytes (can-search bytes w.design w.order w.bounds (record { design = w.design; reads = w.reads; meets = w.meets; ticked = refl })
-    w.arranged) r h
+able bytes w (Unordered r) h = not_refused bytes w.search r h
 able bytes w Long h = not_long bytes w h
 
 -- what has a text that is too long is not refused by the search
 ordered-or-long : (bytes : List ℕ) (r : SearchRefusal) → RefusesSearch bytes r → HasLongArrangement bytes → ⊥
 ordered-or-long bytes r h k =
-    not_refused bytes (can-search bytes k.design k.order k.bounds (record { design = k.design; reads = k.reads; meets = k.meets; ticked = refl })
-    k.arranged) r h
+    not_refused bytes (can-search bytes k.design k.order k.bounds (taken-of bytes k.design k.reads k.meets) k.arranged) r h
 
 one : (bytes : List ℕ) (r q : ArrangeRefusal) → RefusesArrangement bytes r → RefusesArrangement bytes q → r ≡ q
 one bytes (Unordered r) (Unordered q) h k = ap Unordered (one_refusal bytes r q h k)
@@ -153,17 +158,32 @@ one bytes Long Long h k = refl
 
 can_make : (bytes made : List ℕ) → IsArrangedFor bytes made → CanArrange bytes
 can_make bytes made w = record {
-  design = w.design;
-  reads = w.reads;
-  meets = w.meets;
-  order = w.order;
-  bounds = w.bounds;
-  arranged = w.arranged;
-  short = (let short = w.short in rw w.made at short);
+  search = can-search bytes w.design w.order w.bounds (taken-of bytes w.design w.reads w.meets) w.arranged;
+  short = λ order bounds a.
+      let x = in_ticks w.design in
+      let both = one-arranged w.design order w.order bounds w.bounds w.meets a w.arranged in
+      let Short : List ℕ → Type 0 = λ t. length t ≤ ada_limit in
+      let same : ordered_text x w.order w.bounds ≡ ordered_text x order bounds =
+      ap (λ o. ordered_text x o w.bounds) (sym both.0) ∙ ap (ordered_text x order) (sym both.1) in
+      subst Short (w.made ∙ same) w.short;
 }
 
+-- a design has one text by the order that is filled
+one_text : (bytes t u : List ℕ) → IsArrangedFor bytes t → IsArrangedFor bytes u → t ≡ u
+one_text bytes t u h k =
+    let one : h.design ≡ k.design = one-design bytes h.design k.design h.reads k.reads in
+    let P : designs.Design → Type 0 = λ z. IsArranged (flat (in_ticks z)) h.order h.bounds in
+    let both = one-arranged k.design h.order k.order h.bounds k.bounds k.meets (subst P one h.arranged) k.arranged in
+    h.made ∙ ap (λ z. ordered_text (in_ticks z) h.order h.bounds) one ∙ ap (λ o. ordered_text (in_ticks k.design) o h.bounds) both.0
+    ∙ ap (ordered_text (in_ticks k.design) k.order) both.1 ∙ sym k.made
+
 pub arranges-exact : IsExactOf of_arrange
-arranges-exact = record { able = able; one = one; made = can_make }
+arranges-exact = record {
+  able = able;
+  one = one;
+  made = can_make;
+  text = one_text;
+}
 
 -- THE ORDER OF DEADLINES
 
@@ -184,3 +204,21 @@ writes-as-generated bytes made others w g =
     let P : designs.Design → Type 0 = λ z. IsArranged (flat (in_ticks z)) w.order w.bounds in
     w.made ∙ ap (λ z. ordered_text (in_ticks z) w.order w.bounds) one
     ∙ same-text g.design w.order w.bounds g.bounds g.meets (subst P one w.arranged) g.least ∙ sym g.made
+
+pub can-where-generated : CanWhereGenerated
+can-where-generated bytes made w external =
+    let x = in_ticks w.design in
+    let f = flat x in
+    record {
+      search = record {
+        design = x;
+        taken = taken-of bytes w.design w.reads w.meets;
+        external = external;
+        order = (table f).places;
+        is_order = deadline-order f;
+        passes = passes-so f w.bounds w.least.fits;
+      };
+      short = λ order bounds a.
+          let Short : List ℕ → Type 0 = λ t. length t ≤ ada_limit in
+          subst Short (w.made ∙ sym (same-text w.design order bounds w.bounds w.meets a w.least)) w.short;
+    }

@@ -10,7 +10,7 @@ use Rattle.law_designs.specs.Rankings.{program_by}
 use Rattle.law_orders.specs.Orders.{priorities_by}
 use Rattle.law_orders.proofs.Shared.OrderRankings.{order-ranking}
 use Rattle.law_texts.proofs.Shared.RankedTexts.{ranked-accepted}
-use Rattle.law_two_runs.proofs.Shared.RightReplays.{right-replay-by}
+use Rattle.law_two_runs.proofs.Shared.RightReplays.{right-replay-by, served-replay-by}
 use Rattle.hrthood_words.specs.declared.verbs.DesignVerb.TheVariants.{Arrange}
 use Rattle.hrthood_words.specs.Words.{OnDesign, Replay}
 use Rattle.hrthood_top.specs.Arrangements.{IsArrangedFor}
@@ -49,6 +49,8 @@ right_trace bytes made arrivals written w h =
       exclusive = h.traces.trace.exclusive;
       allowed = right.0;
       bounded = right.1;
+      serves = served-replay-by horizon_limit w.design ps made w.bounds h.traces.program h.traces.under h.told w.reads.proper w.meets ranking
+          w.arranged.least.fits own h.traces.says.accepts h.traces.arriving.arrives.accepted h.traces.trace.means;
     }
 
 pub right_arranged_replays : (words others : List (List ℕ)) (d a r text written : List ℕ) (x y u v : Outside) (t s : Told)

@@ -10,14 +10,14 @@ use Rattle.ods_tree.specs.Ticks.{in_ticks}
 use Rattle.design_rules.specs.Rules.{MeetsRules}
 use Rattle.rt_response.specs.declared.rows.Bound.{Bound}
 use Rattle.arrivals_tree.specs.Arrived.{horizon_limit}
-use Rattle.law_orders.specs.Orders.{priorities_by}
+use Rattle.law_orders.specs.Orders.{AllExternal, priorities_by}
 use Rattle.law_runs.specs.Ranked.{GuaranteedBy}
 use Rattle.law_texts.specs.Ranked.{text_by}
 use Rattle.arranging.specs.Arrangements.{IsArranged, IsLongText}
 use Rattle.bridge.specs.Delivers.{IsTextFor}
 use Rattle.hrthood_top.specs.declared.arrange.ArrangeRefusal.{ArrangeRefusal}
 use Rattle.hrthood_top.specs.declared.arrange.ArrangeRefusal.TheVariants.{Unordered, Long}
-use Rattle.hrthood_top.specs.Searches.{search_line, RefusesOrder, RefusesSearch}
+use Rattle.hrthood_top.specs.Searches.{search_line, CanSearch, RefusesOrder, RefusesSearch}
 use Rattle.hrthood_top.specs.Verbs.{OfDesign, Verb, on_design}
 
 -- the text of a design in ticks by an order of its threads
@@ -61,15 +61,11 @@ abbrev pub arrange_line : ArrangeRefusal → List ℕ
 arrange_line (Unordered refusal) = search_line refusal
 arrange_line Long = codes "refused S3 text\n"
 
--- bytes of a design that meets the rules and has such an order, and whose text by it is within its limit
+-- bytes of a design that passes under some order, as `search` asks, and whose text by the order that is filled is within its limit
 pub record CanArrange (bytes : List ℕ) : Type 0 where
-  pub design : designs.Design
-  pub reads : Reads bytes design
-  pub meets : MeetsRules design
-  pub order : List ℕ
-  pub bounds : List Bound
-  pub arranged : IsArranged (flat (in_ticks design)) order bounds
-  pub short : length (ordered_text (in_ticks design) order bounds) ≤ ada_limit
+  pub search : CanSearch bytes
+  pub short : (order : List ℕ) (bounds : List Bound) → IsArranged (flat search.design) order bounds
+      → length (ordered_text search.design order bounds) ≤ ada_limit
 
 -- what the verb makes of a design
 abbrev pub of_arrange : OfDesign
@@ -88,3 +84,7 @@ arranges = on_design of_arrange
 -- where `generate` writes a text of bytes and `arrange` does, they write the same
 abbrev pub WritesAsGenerated : Type 0
 WritesAsGenerated = (bytes text_made others : List ℕ) → IsArrangedFor bytes text_made → IsTextFor bytes others → text_made ≡ others
+
+-- and `arrange` does wherever `generate` does, but where a thread starts another
+abbrev pub CanWhereGenerated : Type 0
+CanWhereGenerated = (bytes text_made : List ℕ) (w : IsTextFor bytes text_made) → AllExternal (flat (in_ticks w.design)) → CanArrange bytes

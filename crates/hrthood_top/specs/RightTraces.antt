@@ -23,7 +23,7 @@ use Rattle.guarantee.specs.Arrivals.{named_arrivals}
 use Rattle.guarantee.specs.Allowed.{Allows}
 use Rattle.guarantee.specs.Bounded.{IsBounded}
 use Rattle.guarantee.specs.Programs.{responses}
-use Rattle.law_chain_bounds.specs.Served.{Serves}
+use Rattle.law_chain_bounds.specs.Served.{Serves, ServesBy}
 use Rattle.law_designs.specs.Rankings.{responses_by}
 use Rattle.law_orders.specs.Orders.{priorities_by}
 use Rattle.arranging.specs.Arrangements.{IsArranged}
@@ -86,3 +86,4 @@ pub record IsRightArrangedTrace (design text arrivals written : List ℕ) : Type
   pub exclusive : Exclusive told
   pub allowed : Allows (in_ticks of) (named_arrivals program under) (named program told)
   pub bounded : IsBounded (responses_by (flat (in_ticks of)) (priorities_by (flat (in_ticks of)) order) bounds) under.until (named program told)
+  pub serves : ServesBy (in_ticks of) (priorities_by (flat (in_ticks of)) order) bounds under.until (named program told)

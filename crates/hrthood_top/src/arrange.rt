@@ -7,7 +7,7 @@ ghost use Rattle.ods_tree.specs.Trees.{flat_of};
 ghost use Rattle.analysis.specs.Sound.{IsSound};
 ghost use Rattle.ods_rules.specs.Checks.{checked_design};
 ghost use Rattle.arranging.specs.Arrangements.{HasRoomFor, IsArrangedText};
-ghost use Rattle.hrthood_top.specs.Arrangements.{arrange_line, IsArrangedFor, RefusesArrangement, RefusesArranging, WritesAsGenerated};
+ghost use Rattle.hrthood_top.specs.Arrangements.{arrange_line, CanWhereGenerated, IsArrangedFor, RefusesArrangement, RefusesArranging, WritesAsGenerated};
 ghost use Rattle.hrthood_top.specs.Writing.{IsMade};
 
 use crate::line::Line;
@@ -88,5 +88,8 @@ pub(crate) fn arrange_text(alloc: Global, design: &[u8]) -> Result<Vec<u8>, Halt
 
 /// Where a design keeps its limits by the order of deadlines, `arrange` writes the text of `generate`, byte for byte.
 pub fn arranged_as_generated()
-    ensures { WritesAsGenerated }
+    // By what both write.
+    ensures same { WritesAsGenerated }
+    // Which `arrange` does wherever `generate` does, unless a thread starts another.
+    ensures can { CanWhereGenerated }
 {}

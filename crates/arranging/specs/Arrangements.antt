@@ -21,7 +21,7 @@ flat_text_by first f ps v =
     head f (written_ranks first (ranks_for f ps)) (table_for f ps).places v
     ++ layout (program_lines (program_for f (written_ranks first (ranks_for f ps))))
 
--- room for any priorities of the threads, and for the ceilings by them, as they are written
+-- any priorities of the threads, and the ceilings by them, are at most 60 as they are written
 abbrev pub HasRoomFor : ℕ → Flat → Type 0
 HasRoomFor first f = max 1 (length f.threads) + (first - 1) ≤ 60
 
@@ -47,7 +47,7 @@ pub record IsLongText (first : ℕ) (f : Flat) : Type 0 where
   pub arranged : IsArranged f order bounds
   pub long : ada_limit < length (flat_text_by first f (priorities_by f order) bounds)
 
--- why there is no text; of want of memory `IsNotFound` says nothing
+-- why there is no text; of a failed allocation `IsNotFound` says nothing
 abbrev pub IsNotArranged : ℕ → Flat → NotArranged → Type 0
 IsNotArranged first f (NotFound why) = IsNotFound f why
 IsNotArranged first f Long = IsLongText first f

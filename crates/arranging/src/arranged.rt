@@ -7,7 +7,7 @@ use priority_search::NotFound;
 /// Why no text is made of a flat design.
 #[derive(Drop, Debug)]
 pub enum NotArranged {
-    /// No order is found, or there is a want of memory.
+    /// No order is found, or an allocation failed.
     NotFound(NotFound),
     /// The text would be over 16,777,216 bytes.
     Long,

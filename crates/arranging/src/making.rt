@@ -52,8 +52,8 @@ fn text_by(alloc: Global, flat: &Flat, found: Found, first: u32) -> Result<Vec<u
 /// The Ada text of a flat design by the priority order that is found for it; the least priority is written as `first`.
 ///
 /// The order is that of `priority_search::search`: filled from its lowest place upwards (Audsley 1991), so that it is the deadline-monotonic
-/// one where the design passes by that. `NotFound` comes exactly where the search finds none, and tells its cause, or for want of
-/// memory; `Long` where the text would be over 16,777,216 bytes.
+/// one if the design passes by that. It fails with `NotFound` exactly if the search finds none, with its cause, or if an allocation fails; with
+/// `Long` if the text would be over 16,777,216 bytes.
 pub fn arrange(alloc: Global, flat: &Flat, first: u32) -> Result<Vec<u8>, NotArranged>
     requires sound { IsSound (flat_of flat.now) }
     requires first { 1 ≤ first }

@@ -56,7 +56,7 @@ abbrev pub RefusesArrangement : List ℕ → ArrangeRefusal → Type 0
 RefusesArrangement bytes (Unordered refusal) = RefusesSearch bytes refusal
 RefusesArrangement bytes Long = HasLongArrangement bytes
 
--- the line that tells it
+-- the line of each refusal
 abbrev pub arrange_line : ArrangeRefusal → List ℕ
 arrange_line (Unordered refusal) = search_line refusal
 arrange_line Long = codes "refused S3 text\n"

@@ -24,7 +24,7 @@ use std::alloc::Global;
 /// Why no Ada text is made of a design by an order that is found.
 #[derive(Drop, Debug)]
 pub enum ArrangeRefusal {
-    /// There is no order, for the reason that `search` tells.
+    /// There is no order, for the cause that `search` reports.
     Unordered(SearchRefusal),
     /// The text that is to be made has more bytes than an Ada text may have.
     Long,

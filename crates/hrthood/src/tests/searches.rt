@@ -11,10 +11,6 @@ const FOUND: &str = "words: search d
 const REFUSED: &str = "words: search d
     status: refused";
 
-/// What rows of designs that are refused have where a text is asked for.
-const UNARRANGED: &str = "words: arrange d
-    status: refused";
-
 /// Designs that pass under some order.
 const ORDERED: &[&str] = &[
     "name: a jitter for which the order of deadlines fails
@@ -34,7 +30,11 @@ const ORDERED: &[&str] = &[
     out: ceiling a 32",
 ];
 
-/// Designs that are refused.
+/// Designs that are refused, by `search` and by `arrange`.
+pub fn unordered() -> &'static [&'static str] {
+    UNORDERED
+}
+
 const UNORDERED: &[&str] = &[
     "name: three cyclic threads that pass under no order
     children: OBJECT a IS CYCLIC ATTRIBUTES PERIOD = 7; DEADLINE = 7; THREAD_BUDGET = 1000; THREAD work (2); END THREAD; END a; \
@@ -63,11 +63,4 @@ fn orders_are_searched(rt: HostRuntime) {
     run_table(&rt, alloc, FOUND, by_deadline());
     run_table(&rt, alloc, REFUSED, UNORDERED);
     run_table(&rt, alloc, REFUSED, untaken())
-}
-
-#[test]
-fn what_has_no_order_has_no_text(rt: HostRuntime) {
-    let alloc = rt.alloc();
-    run_table(&rt, alloc, UNARRANGED, UNORDERED);
-    run_table(&rt, alloc, UNARRANGED, untaken())
 }

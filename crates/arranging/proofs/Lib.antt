@@ -1,1 +1,2 @@
 mod ArrangedTexts
+mod Examples

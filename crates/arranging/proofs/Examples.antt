@@ -83,7 +83,7 @@ module _ (first : ℕ) (f : Flat) (text : List ℕ) where
 
 module _ (first : ℕ) (f : Flat) where
   too_long : (order : List ℕ) (v : List Bound) → IsArranged f order v → ada_limit < length (flat_text_by first f (priorities_by f order) v)
-      → Arranges {List ℕ} (λ t. t) first f (Err cause.Long)
+      → Arranges {X = List ℕ} (λ t. t) first f (Err cause.Long)
   too_long order v a l = record { order = order; bounds = v; arranged = a; long = l }
 
   long_never_arranged : ((order : List ℕ) (v : List Bound) → IsArranged f order v → ⊥) → IsLongText first f → ⊥
@@ -93,11 +93,11 @@ module _ (first : ℕ) (f : Flat) where
       → IsLongText first f → ⊥
   not_long short h = let long = h.long in let within = short h.order h.bounds h.arranged in omega (arith, long, within)
 
-  not_found : (why : NotFound) → IsNotFound f why → Arranges {List ℕ} (λ t. t) first f (Err (cause.NotFound why))
+  not_found : (why : NotFound) → IsNotFound f why → Arranges {X = List ℕ} (λ t. t) first f (Err (cause.NotFound why))
   not_found why h = h
 
-  found : (why : NotFound) → ¬ IsNotFound f why → Arranges {List ℕ} (λ t. t) first f (Err (cause.NotFound why)) → ⊥
+  found : (why : NotFound) → ¬ IsNotFound f why → Arranges {X = List ℕ} (λ t. t) first f (Err (cause.NotFound why)) → ⊥
   found why never h = never h
 
-  no_memory : Arranges {List ℕ} (λ t. t) first f (Err (cause.NotFound NoMemory))
+  no_memory : Arranges {X = List ℕ} (λ t. t) first f (Err (cause.NotFound NoMemory))
   no_memory = tt

@@ -69,11 +69,13 @@ const REFUSED: &str = "words: arrange d
     status: refused";
 
 /// A design that passes by another order than that of deadlines.
-const ARRANGED: &[&str] = &["name: a jitter for which the order of deadlines fails
+const ARRANGED: &[&str] = &[
+    "name: a jitter for which the order of deadlines fails
     children: OBJECT s IS SPORADIC ATTRIBUTES SEPARATION = 20; DEADLINE = 20; THREAD_BUDGET = 1000; ARRIVAL_JITTER = 12; \
         PROVIDES start (v : in word) ASER; THREAD work (4); END THREAD; END s; OBJECT c IS CYCLIC ATTRIBUTES PERIOD = 15; DEADLINE = 15; \
         THREAD_BUDGET = 1000; THREAD work (4); END THREAD; END c;
-    told: another order text"];
+    told: another order text",
+];
 
 /// The heads of texts by another order than that of deadlines.
 const HEADS: &[&str] = &[
@@ -101,16 +103,19 @@ const HEADS: &[&str] = &[
 ];
 
 /// Designs that are refused, besides those that `search` refuses.
-const LONG: &[&str] = &["name: a text over its limit of a design of 650,000 bytes
+const LONG: &[&str] = &[
+    "name: a text over its limit of a design of 650,000 bytes
     linked: 130000
     err_room: 1000
-    err: refused S3 text"];
+    err: refused S3 text",
+];
 
 /// What rows of designs whose texts are replayed have.
 const ARRANGES: &str = "words: arrange d";
 
 /// A design whose text by another order is replayed.
-const REPLAYED: &[&str] = &["name: a jitter for which the order of deadlines fails
+const REPLAYED: &[&str] = &[
+    "name: a jitter for which the order of deadlines fails
     why: s, which is requested at 2, goes before c, which has used 2 of its 5 ticks then
     children: OBJECT s IS SPORADIC ATTRIBUTES SEPARATION = 20; DEADLINE = 20; THREAD_BUDGET = 1000; ARRIVAL_JITTER = 12; \
         PROVIDES start (v : in word) ASER; THREAD work (4); END THREAD; END s; OBJECT c IS CYCLIC ATTRIBUTES PERIOD = 15; DEADLINE = 15; \
@@ -124,7 +129,8 @@ const REPLAYED: &[&str] = &["name: a jitter for which the order of deadlines fai
     out: 10 end c used 5
     out: 15 release c
     out: 20 end c used 5
-    out: 21 horizon"];
+    out: 21 horizon",
+];
 
 #[test]
 fn texts_by_another_order(rt: HostRuntime) {

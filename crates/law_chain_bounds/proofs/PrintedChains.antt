@@ -1,5 +1,5 @@
 -- The chains of a design's table are chains of its program's tasks, by any ranking: a row that another starts is that of a sporadic thread.
-use Rattle.std.specs.Prelude.{◌≡◌, ◌⊎◌, ℕ, zero, suc, ◌+◌, ◌≤◌, ◌<◌, true, List, [], ◌∷◌, ◌++◌, length, map, filter_map, reverse, zip}
+use Rattle.std.specs.Prelude.{◌≡◌, ◌⊎◌, ℕ, zero, suc, ◌+◌, ◌-◌, ◌≤◌, ◌<◌, true, List, [], ◌∷◌, ◌++◌, length, map, filter_map, reverse, zip}
 use Rattle.std.specs.Prelude.{fold, slice_get, Option, Some, None, IfSome, option_map, refl}
 use Rattle.std.specs.List.{cons_option}
 use Rattle.std.proofs.Common.{sym, ◌∙◌, ap, subst, arith, inl, inr}

@@ -1,7 +1,7 @@
 #!/usr/bin/env bash
-# How much processor time `search`, `scale` and `explain` take, beside `analyse` of the same design, at four sizes, with exponents: 30 threads that each
-# call the first of up to 469 protected objects, of which each calls the next one; the same with jitters for which the order by deadlines
-# fails, so that an order has to be looked for; and one thread with a long block of `work`, up to nearly 1 MiB.
+# How much processor time `search`, `arrange`, `scale` and `explain` take, beside `analyse` of the same design, at four sizes, with exponents: 30
+# threads that each call the first of up to 469 protected objects, of which each calls the next one; the same with jitters for which the order by
+# deadlines fails, so that an order has to be looked for; and one thread with a long block of `work`, up to nearly 1 MiB.
 source "$(dirname -- "${BASH_SOURCE[0]}")/measure.sh"
 
 # 30 threads, the first with this jitter of arrival, and so many protected objects in a chain.
@@ -54,6 +54,9 @@ by_jitter() { jittered $((1000000 - 45 * $1)) "$1"; }
 
 beside search by_deadlines 59 118 235 469
 beside search by_jitter 59 118 235 469
+beside arrange by_deadlines 59 118 235 469
+beside arrange by_jitter 59 118 235 469
+beside arrange long_work 13000 26000 52000 104000
 beside scale by_deadlines 59 118 235 469
 beside scale long_work 13000 26000 52000 104000
 beside explain by_deadlines 59 118 235 469

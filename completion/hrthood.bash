@@ -1,6 +1,6 @@
 # Completion of the words of hrthood for bash, where it is read with `.`: verbs first, then for each operand the files of its kind, or
 # the counts of a sample. The verbs and their operands are those of the usage line; tools/report/test_tools.py compares both.
-_hrthood_usage='check D | analyse D | format D | generate D | replay A R | verify D R | sample N | background D | accepts D R T | search D | scale D | explain D'
+_hrthood_usage='check D | analyse D | format D | generate D | replay A R | verify D R | sample N | background D | accepts D R T | search D | scale D | explain D | arrange D'
 
 # Files with this ending, and folders, that go on from a word.
 _hrthood_files() {

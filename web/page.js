@@ -579,6 +579,6 @@ listenToKeys();
 listenToExamples();
 show(firstTexts());
 choose(tabs[0]);
-at("last-tab").textContent = String(tabs.length % 10);
+at("last-tab").textContent = String(Math.min(tabs.length, 10) % 10);
 tell("", ["Starting\u2026", ""], "");
 runs.isReady.then(again, (fault) => tell("bad", [NEEDS, ""], fault.message));

@@ -37,7 +37,7 @@ function searchView(out, { design }) {
   const head = isSame
     ? "The order by deadlines passes, so it is the one that is found."
     : "The order by deadlines fails, and under this order each thread keeps its limits.";
-  const note = make("p", { class: "note" }, "No Ada text is written for another order than that by deadlines, and no run of one is proved.");
+  const note = make("p", { class: "note" }, "The tab Arrange has the Ada text by this order.");
   const response = isSame ? PROVED : "the least number that meets the response equations under this order";
   const tables = boundsTables(readExplanation(out), tickOf(design), state.clock, response);
   return [make("p", {}, make("b", {}, head)), ...(isSame ? [] : [note]), ...tables];
@@ -60,6 +60,24 @@ function hardTable(hard, tick, clock) {
 
 const CLIENT = "runs in the time that the hard threads leave, and again as soon as it has ended; no bound and no share of the time is promised";
 const SERVER = "serves one caller at a time, who waits for it; no hard thread is among them";
+
+/** `arrange`: the Ada text by an order of priorities under which the design passes, and what it tells of bounds and priorities. */
+function arrangeView(out, { design }) {
+  const told = tasksOf(out);
+  const isSame = out === state.ada;
+  const head = isSame
+    ? "The order by deadlines passes, so this is the text of the tab Ada text."
+    : "The order by deadlines fails, and under this order each thread keeps its deadline in every run of this text.";
+  const ceilings = [...told.program.ceilings].map(([name, ceiling]) => ({ name, ceiling }));
+  return [
+    make("p", {}, make("b", {}, head)),
+    hardTable(told.hard, tickOf(design), state.clock),
+    ...ceilingTable(ceilings),
+    make("p", { class: "note" }, "The slack and the bars are reckoned by the page."),
+    make("h3", {}, "Its Ada text"),
+    linesOf(out.trimEnd().split("\n")),
+  ];
+}
 
 /** Clients and servers of a design as a table, of which the Ada text tells priorities and ceilings. */
 function backgroundTable(design, { program, clients }) {
@@ -118,6 +136,7 @@ const VERBS = [
   { verb: "background", label: "Background", takes: ["design"], file: "background.ada", view: backgroundView },
   { verb: "accepts", label: "Check a trace", takes: ["design", "arrivals", "trace"], file: "verdict.txt", view: acceptsView, none: NO_TRACE },
   { verb: "explain", label: "Explain", takes: ["design"], file: "explanation.txt", view: explainView },
+  { verb: "arrange", label: "Arrange", takes: ["design"], file: "arranged.ada", view: arrangeView },
 ];
 
 /** The tab of a verb. Its run begins when the tab is chosen, and again when a text that it takes has changed meanwhile. */

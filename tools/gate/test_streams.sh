@@ -51,7 +51,7 @@ tells() {
 }
 
 usage='usage: hrthood check D | analyse D | format D | generate D | replay A R | verify D R | sample N | background D | accepts D R T'
-usage+=' | search D | scale D | explain D'
+usage+=' | search D | scale D | explain D | arrange D'
 tells 2 "$usage"
 tells 2 "$usage" check
 tells 2 "$usage" check one_cyclic_object.design two

@@ -19,7 +19,7 @@ function wantedRows(verb, out) {
     const threads = lines.filter((words) => words[0] === "thread");
     return threads.map((words) => words.filter((_, index) => index % 2 === 1 || index === 16).slice(0, 8));
   }
-  if (verb !== "background") return [];
+  if (verb !== "background" && verb !== "arrange") return [];
   const heads = lines.filter((words) => words[0] === "--" && words[1] === "thread");
   return heads.map(([, , name, , priority, , jitter, , response, , deadline]) =>
     [name, priority, deadline, jitter, response, String(Number(deadline) - Number(response))]);
@@ -32,7 +32,7 @@ export async function tryVerbTabs(page) {
     "logged_control.design", ...filesOf("faults", ".design").filter(hasBackground)];
   for (const design of shown) {
     await set(page, { design: read(design), arrivals: read("until_150.arrivals") });
-    for (const verb of ["scale", "search", "background"]) {
+    for (const verb of ["scale", "search", "background", "arrange"]) {
       const { status, out, err } = answerOf([verb, design]);
       const told = await panelOf(page, verb);
       const wanted = status === 0 ? out.toString() : err;

@@ -59,7 +59,7 @@ function casesOfTables() {
 
 const arrivals = [...filesOf("", ".arrivals"), ...filesOf("faults", ".arrivals")];
 const traces = [...filesOf("", ".trace"), ...filesOf("faults", ".trace")];
-const OVER_DESIGNS = ["check", "analyse", "format", "generate", "search", "scale", "background", "explain"];
+const OVER_DESIGNS = ["check", "analyse", "format", "generate", "search", "scale", "background", "explain", "arrange"];
 
 /** Each verb over all files that it takes. */
 function allLines() {

@@ -2,6 +2,7 @@
 
 mod accepts;
 mod analyses;
+mod arrangements;
 mod arrivals;
 mod backgrounds;
 mod changed_by_hand;

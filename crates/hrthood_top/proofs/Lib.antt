@@ -37,3 +37,5 @@ pub mod Gathering
 mod Examples
 pub mod RunsDone
 pub mod Tracing
+mod ArrangeLaws
+mod ArrangedReplaying

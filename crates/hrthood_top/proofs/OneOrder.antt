@@ -41,7 +41,7 @@ priorities-same f =
     omega (arith, one, two, three))
 
 -- bounds by deadlines are a vector by which the order of deadlines passes
-passes-so : (f : Flat) (v : List Bound) → Fits (table f).rows v → Passes f (table f).places
+pub passes-so : (f : Flat) (v : List Bound) → Fits (table f).rows v → Passes f (table f).places
 passes-so f v h = let P : List ℕ → Type 0 = λ ps. Fits (table_for f ps).rows v in (v, subst P (sym (priorities-same f)) h)
 
 lines-same : (first : ℕ) (f : Flat) (lines : List ℕ) (v : List Bound) → IsSound f → IsOrdered first f lines → IsLeastVector (table f).rows v

@@ -44,14 +44,14 @@ one_unordered : (f : Flat) (ts us : List Name) → IsSound f → HasNoOrder f ts
 one_unordered f ts us sound h k = h.called ∙ ap (names_at f) (one-refuted f h.places k.places sound h.refuted k.refuted) ∙ sym k.called
 
 -- a design that passes under an order is refused for no reason
-not_refused : (bytes : List ℕ) → CanSearch bytes → (r : SearchRefusal) → RefusesSearch bytes r → ⊥
+pub not_refused : (bytes : List ℕ) → CanSearch bytes → (r : SearchRefusal) → RefusesSearch bytes r → ⊥
 not_refused bytes w (refusal.Untaken r) h = taken-not bytes w.design w.taken r h
 not_refused bytes w (refusal.Started thread) h =
     not_internal (flat w.design) thread w.external (along (λ x. IsInternal (flat x) thread) bytes h.0 w.design h.1 w.taken h.2)
 not_refused bytes w (refusal.None threads) h =
     let k = along (λ x. HasNoOrder (flat x) threads) bytes h.0 w.design h.1 w.taken h.2 in k.refuted.none w.order w.is_order w.passes
 
-one_refusal : (bytes : List ℕ) (r q : SearchRefusal) → RefusesSearch bytes r → RefusesSearch bytes q → r ≡ q
+pub one_refusal : (bytes : List ℕ) (r q : SearchRefusal) → RefusesSearch bytes r → RefusesSearch bytes q → r ≡ q
 one_refusal bytes (refusal.Untaken r) (refusal.Untaken q) h k = ap refusal.Untaken (one-untaken bytes r q h k)
 one_refusal bytes (refusal.Untaken r) (refusal.Started t) h k = absurd (taken-not bytes k.0 k.1 r h)
 one_refusal bytes (refusal.Untaken r) (refusal.None ts) h k = absurd (taken-not bytes k.0 k.1 r h)

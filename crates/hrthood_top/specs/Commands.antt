@@ -1,11 +1,12 @@
 -- The verb that a command asks for, with its files.
 use Rattle.std.specs.Prelude.{ℕ, List}
 use Rattle.hrthood_words.specs.declared.verbs.DesignVerb.{DesignVerb}
-use Rattle.hrthood_words.specs.declared.verbs.DesignVerb.TheVariants.{Check, Analyse, Format, Generate, Search, Scale, Background, Explain}
+use Rattle.hrthood_words.specs.declared.verbs.DesignVerb.TheVariants.{Check, Analyse, Format, Generate, Search, Scale, Background, Explain, Arrange}
 use Rattle.hrthood_words.specs.Words.{Command, OnDesign, Replay, Verify, Accepts, Sample}
 use Rattle.hrthood_top.specs.Verbs.{OfDesign, Verb, on_design}
 use Rattle.hrthood_top.specs.Acceptances.{acceptances}
 use Rattle.hrthood_top.specs.Analyses.{of_analyse}
+use Rattle.hrthood_top.specs.Arrangements.{of_arrange}
 use Rattle.hrthood_top.specs.Backgrounds.{of_background}
 use Rattle.hrthood_top.specs.Checks.{of_check}
 use Rattle.hrthood_top.specs.Explanations.{of_explain}
@@ -27,6 +28,7 @@ of_verb Search = of_search
 of_verb Scale = of_scale
 of_verb Background = of_background
 of_verb Explain = of_explain
+of_verb Arrange = of_arrange
 
 -- that verb
 abbrev pub design_verb : DesignVerb → List ℕ → Verb

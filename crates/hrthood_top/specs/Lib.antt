@@ -4,6 +4,7 @@ pub mod Messages
 pub mod Tells
 pub mod Checks
 pub mod Explanations
+pub mod Arrangements
 pub mod Formats
 pub mod Generates
 pub mod Analyses

@@ -23,7 +23,10 @@ use Rattle.guarantee.specs.Arrivals.{named_arrivals}
 use Rattle.guarantee.specs.Allowed.{Allows}
 use Rattle.guarantee.specs.Bounded.{IsBounded}
 use Rattle.guarantee.specs.Programs.{responses}
-use Rattle.law_chain_bounds.specs.Served.{Serves}
+use Rattle.law_chain_bounds.specs.Served.{Serves, ServesBy}
+use Rattle.law_designs.specs.Rankings.{responses_by}
+use Rattle.law_orders.specs.Orders.{priorities_by}
+use Rattle.arranging.specs.Arrangements.{IsArranged}
 use Rattle.background_designs.specs.Refusals.{IsBackgroundDesign}
 use Rattle.background_designs.specs.Programs.{hard_rows}
 use Rattle.background_designs.specs.Runs.{PermitsBackground}
@@ -64,3 +67,23 @@ pub record IsRightBackgroundTrace (design text arrivals written : List ℕ) : Ty
   pub whole : written ≡ lines program told
   pub exclusive : Exclusive told
   pub permitted : PermitsBackground (in_ticks of) bounds (named_arrivals program under) (named program told)
+
+-- the same of the text of a design by an order of its threads: a run that the design allows, within the least bounds by this order
+pub record IsRightArrangedTrace (design text arrivals written : List ℕ) : Type 0 where
+  pub of : Design
+  pub reads : Reads design of
+  pub meets : MeetsRules of
+  pub order : List ℕ
+  pub bounds : List Bound
+  pub arranged : IsArranged (flat (in_ticks of)) order bounds
+  pub program : Program
+  pub accepts : Accepts text program
+  pub under : Arrivals
+  pub arrives : Arrives horizon_limit arrivals program under
+  pub told : List Event
+  pub means : Meaning program under told
+  pub whole : written ≡ lines program told
+  pub exclusive : Exclusive told
+  pub allowed : Allows (in_ticks of) (named_arrivals program under) (named program told)
+  pub bounded : IsBounded (responses_by (flat (in_ticks of)) (priorities_by (flat (in_ticks of)) order) bounds) under.until (named program told)
+  pub serves : ServesBy (in_ticks of) (priorities_by (flat (in_ticks of)) order) bounds under.until (named program told)

@@ -10,6 +10,7 @@
 mod accepts;
 mod ada_lines;
 mod analyse;
+mod arrange;
 mod arrival_lines;
 mod background_text;
 mod chain_lines;
@@ -46,6 +47,7 @@ mod verify;
 mod violation;
 
 pub use accepts::AcceptsRefusal;
+pub use arrange::arranged_as_generated;
 pub use background_text::BackgroundRefusal;
 pub use bridge::Untaken;
 pub use deadline_reports::searched_as_analysed;
@@ -59,5 +61,8 @@ pub use search::SearchRefusal;
 pub use status::Status;
 pub use thread_names::ThreadNames;
 pub use toolset::{run, run_plain};
-pub use two_runs::{background_text_replays, generated_text_replays, verified_trace_is_accepted};
+pub use two_runs::{
+    arranged_text_replays, background_text_replays, generated_text_replays,
+    verified_trace_is_accepted,
+};
 pub use verify::VerifyRefusal;

@@ -92,7 +92,11 @@ fn name_of(alloc: Global, flat: &Flat, place: u32) -> Result<Name, NoMemory>
 }
 
 /// Why no order was found, with the names of threads.
-fn refusal_of(alloc: Global, flat: &Flat, why: NotFound) -> Result<SearchRefusal, NoMemory>
+pub(crate) fn refusal_of(
+    alloc: Global,
+    flat: &Flat,
+    why: NotFound,
+) -> Result<SearchRefusal, NoMemory>
     requires { IsNotFound (flat_of flat.now) why }
     ensures { IfOk result (RefusesOrder (flat_of flat.now)) }
 {

@@ -11,6 +11,7 @@ ghost use Rattle.hrthood_top.specs.Writing.{Streams};
 
 use crate::accepts::accepts;
 use crate::analyse::analyse_text;
+use crate::arrange::arrange_text;
 use crate::background_text::make_background;
 use crate::check::check_text;
 use crate::explain::explain_text;
@@ -50,6 +51,7 @@ fn do_text<O: Sink, E: Sink>(
         DesignVerb::Scale => finish(out, err, scale_text(alloc, design)),
         DesignVerb::Background => finish(out, err, make_background(alloc, design)),
         DesignVerb::Explain => finish(out, err, explain_text(alloc, design)),
+        DesignVerb::Arrange => finish(out, err, arrange_text(alloc, design)),
     }
 }
 

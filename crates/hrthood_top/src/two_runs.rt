@@ -1,9 +1,9 @@
 ghost use Rattle.std.specs.Prelude.{◌≡◌, ℕ, List, Some};
 ghost use Rattle.hood_io.specs.Shelves.{Told};
-ghost use Rattle.hrthood_words.specs.declared.verbs.DesignVerb.TheVariants.{Background, Generate};
+ghost use Rattle.hrthood_words.specs.declared.verbs.DesignVerb.TheVariants.{Arrange, Background, Generate};
 ghost use Rattle.hrthood_words.specs.Words.{OnDesign, Replay, Verify};
 ghost use Rattle.hrthood_top.specs.Ends.{Outside};
-ghost use Rattle.hrthood_top.specs.TwoRuns.{IsDone, IsRightBackgroundReplay, IsRightReplay, IsVerifiedTrace};
+ghost use Rattle.hrthood_top.specs.TwoRuns.{IsDone, IsRightArrangedReplay, IsRightBackgroundReplay, IsRightReplay, IsVerifiedTrace};
 
 /// What `replay` writes of a text that `generate` wrote is the trace of a run that the design allows, within its bounds.
 ///
@@ -37,4 +37,14 @@ pub fn background_text_replays()
 pub fn verified_trace_is_accepted()
     ensures { (words : List (List ℕ)) (d r written : List ℕ) (x y : Outside) (t : Told)
         → IsDone words (Verify d r) x y t written → IsVerifiedTrace t d r written }
+{}
+
+/// What `replay` writes of a text that `arrange` wrote is the trace of a run that the design allows, within its bounds by the order that was found.
+///
+/// The two runs are apart, as those of `generated_text_replays`. The trace has no stop, and each release whose response time by that order
+/// falls within the horizon has its end within it.
+pub fn arranged_text_replays()
+    ensures { (words others : List (List ℕ)) (d a r text written : List ℕ) (x y u v : Outside) (t s : Told)
+        → IsDone words (OnDesign Arrange d) x y t text → IsDone others (Replay a r) u v s written → s.files a ≡ Some text
+        → IsRightArrangedReplay t s d r text written }
 {}

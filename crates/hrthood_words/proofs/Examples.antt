@@ -1,7 +1,7 @@
 -- Examples of words and the commands that they are, each verb once, with words that differ from one by little and are none; and of the
 -- usage line of two verbs.
 use Rattle.std.proofs.Common.{◌≡◌, [], ◌∷◌, Some, None, refl, codes}
-use Rattle.hrthood_words.specs.declared.verbs.DesignVerb.TheVariants.{Check, Analyse, Format, Generate, Search, Scale, Background, Explain}
+use Rattle.hrthood_words.specs.declared.verbs.DesignVerb.TheVariants.{Check, Analyse, Format, Generate, Search, Scale, Background, Explain, Arrange}
 use Rattle.hrthood_words.specs.declared.verbs.Shape.TheVariants.{Design, DesignArrivals, DesignArrivalsTrace}
 use Rattle.hrthood_words.specs.Words.{OnDesign, Replay, Verify, Accepts, Sample, command_of, usage_of}
 
@@ -37,6 +37,9 @@ background = refl
 
 explain : command_of (codes "explain" ∷ codes "d" ∷ []) ≡ Some (OnDesign Explain (codes "d"))
 explain = refl
+
+arrange : command_of (codes "arrange" ∷ codes "d" ∷ []) ≡ Some (OnDesign Arrange (codes "d"))
+arrange = refl
 
 accepts : command_of (codes "accepts" ∷ codes "d" ∷ codes "r" ∷ codes "t" ∷ []) ≡ Some (Accepts (codes "d") (codes "r") (codes "t"))
 accepts = refl

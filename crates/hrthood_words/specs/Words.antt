@@ -6,7 +6,7 @@ use Rattle.std.specs.Prelude.{Option, Some, None, option_map, option_and_then, i
 use Rattle.std.specs.Char.{is_ascii_digit}
 use Rattle.std.specs.Str.{bytes_eq}
 use Rattle.hrthood_words.specs.declared.verbs.DesignVerb.{DesignVerb}
-use Rattle.hrthood_words.specs.declared.verbs.DesignVerb.TheVariants.{Check, Analyse, Format, Generate, Search, Scale, Background, Explain}
+use Rattle.hrthood_words.specs.declared.verbs.DesignVerb.TheVariants.{Check, Analyse, Format, Generate, Search, Scale, Background, Explain, Arrange}
 use Rattle.hrthood_words.specs.declared.verbs.Shape.{Shape}
 use Rattle.hrthood_words.specs.declared.verbs.Shape.TheVariants.{Design, AdaArrivals, DesignArrivals, DesignArrivalsTrace, Count}
 
@@ -30,6 +30,7 @@ verbs = (codes "check", Design Check)
     ∷ (codes "search", Design Search)
     ∷ (codes "scale", Design Scale)
     ∷ (codes "explain", Design Explain)
+    ∷ (codes "arrange", Design Arrange)
     ∷ []
 
 -- what the first of these verbs asks for that is written so, where there is one

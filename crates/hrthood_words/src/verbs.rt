@@ -21,6 +21,8 @@ pub enum DesignVerb {
     Background,
     /// Tell what its bounds are made up of, or why it has none.
     Explain,
+    /// Make the Ada text by a priority order under which it passes.
+    Arrange,
 }
 
 /// The operands that a verb asks for, and which of the verbs that ask for these it is, where there are several.
@@ -39,7 +41,7 @@ pub enum Shape {
 }
 
 /// The verbs in the order of the usage line, each as it is written, with what it asks for.
-pub const VERBS: [(&str, Shape); 12] = [
+pub const VERBS: [(&str, Shape); 13] = [
     ("check", Shape::Design(DesignVerb::Check)),
     ("analyse", Shape::Design(DesignVerb::Analyse)),
     ("format", Shape::Design(DesignVerb::Format)),
@@ -52,6 +54,7 @@ pub const VERBS: [(&str, Shape); 12] = [
     ("search", Shape::Design(DesignVerb::Search)),
     ("scale", Shape::Design(DesignVerb::Scale)),
     ("explain", Shape::Design(DesignVerb::Explain)),
+    ("arrange", Shape::Design(DesignVerb::Arrange)),
 ];
 
 /// The operands of a shape in the usage line, a letter each, with a space before it.

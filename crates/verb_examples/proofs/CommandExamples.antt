@@ -5,11 +5,12 @@ use Rattle.std.specs.Prelude.{unwrap_or}
 use Rattle.hood_io.specs.Shelves.{Told}
 use Rattle.hrthood_top.specs.declared.status.Status.{Status}
 use Rattle.hrthood_top.specs.declared.status.Status.TheVariants.{Done, Refused, Usage, ReadFault, WriteFault, NoMemory}
-use Rattle.hrthood_words.specs.declared.verbs.DesignVerb.TheVariants.{Check, Analyse, Format, Generate, Search, Scale, Background}
+use Rattle.hrthood_words.specs.declared.verbs.DesignVerb.TheVariants.{Check, Analyse, Format, Generate, Search, Scale, Background, Arrange}
 use Rattle.hrthood_words.specs.Words.{Command, OnDesign, Replay, Verify, Accepts, Sample}
 use Rattle.hrthood_top.specs.Commands.{verb_of}
 use Rattle.hrthood_top.specs.Acceptances.{acceptances}
 use Rattle.hrthood_top.specs.Analyses.{analyses}
+use Rattle.hrthood_top.specs.Arrangements.{arranges}
 use Rattle.hrthood_top.specs.Backgrounds.{backgrounds}
 use Rattle.hrthood_top.specs.Checks.{checks}
 use Rattle.hrthood_top.specs.Formats.{formats}
@@ -37,6 +38,9 @@ generate_verb d = refl
 
 search_verb : (d : List ℕ) → verb_of (OnDesign Search d) ≡ searches d
 search_verb d = refl
+
+arrange_verb : (d : List ℕ) → verb_of (OnDesign Arrange d) ≡ arranges d
+arrange_verb d = refl
 
 scale_verb : (d : List ℕ) → verb_of (OnDesign Scale d) ≡ scales d
 scale_verb d = refl
@@ -81,7 +85,7 @@ start = record {
 abbrev usage_line : List ℕ
 usage_line =
     codes "usage: hrthood check D | analyse D | format D | generate D | replay A R | verify D R | sample N | background D | accepts D R T"
-    ++ codes " | search D | scale D | explain D\n"
+    ++ codes " | search D | scale D | explain D | arrange D\n"
 
 usage : Ends Usage None start (record start { err = Some usage_line })
 usage = (refl, refl, inl refl)

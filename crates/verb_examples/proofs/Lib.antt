@@ -7,6 +7,7 @@ mod ToldExamples
 mod AnalysisExamples
 mod MarginExamples
 mod SearchExamples
+mod ArrangeExamples
 mod MakeExamples
 mod DeliverExamples
 mod VerbExamples

@@ -111,7 +111,7 @@ const TOLD: &[&str] = &[
     "words: check
     status: usage
     err: usage: hrthood check D | analyse D | format D | generate D | replay A R | verify D R | sample N | background D | \
-        accepts D R T | search D | scale D | explain D",
+        accepts D R T | search D | scale D | explain D | arrange D",
     "words: check x
     status: read fault
     err: fault reading x",

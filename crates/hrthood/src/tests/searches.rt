@@ -30,7 +30,11 @@ const ORDERED: &[&str] = &[
     out: ceiling a 32",
 ];
 
-/// Designs that are refused.
+/// Designs that are refused, by `search` and by `arrange`.
+pub fn unordered() -> &'static [&'static str] {
+    UNORDERED
+}
+
 const UNORDERED: &[&str] = &[
     "name: three cyclic threads that pass under no order
     children: OBJECT a IS CYCLIC ATTRIBUTES PERIOD = 7; DEADLINE = 7; THREAD_BUDGET = 1000; THREAD work (2); END THREAD; END a; \

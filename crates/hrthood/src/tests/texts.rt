@@ -12,6 +12,7 @@
 //! | `ada_cut` | so many bytes are missing at its end |
 //! | `ada_len` | with spaces behind it, up to so many bytes |
 
+use super::arrangements::ARRANGED_TEXT;
 use super::backgrounds::{LOGGED, LOGGED_ROOT, LOGGED_TRACE, TURNS};
 use super::changed_tokens::{ADA, ARRIVALS, DESIGN, UNITS};
 use super::checks::{WRONG, WRONG_WITHOUT_CLASHES};
@@ -241,11 +242,13 @@ pub fn ada_text(rt: &impl Abort, alloc: Global, row: &str) -> Vec<u8> {
     }
 }
 
-/// The text that a row means by a name: the Ada text of its task, that of the design of every kind of object, or one that is known by it.
+/// The text that a row means by a name: the Ada text of its task, that of the design of every kind of object, that by another order than that of
+/// deadlines, or one that is known by it.
 pub fn text_named(rt: &impl Abort, alloc: Global, row: &str, name: &str) -> Vec<u8> {
     match name {
         "ada" => ada_text(rt, alloc, row),
         "every kind text" => filled(rt, alloc, EVERY_KIND_TEXT, row),
+        "another order text" => filled(rt, alloc, ARRANGED_TEXT, row),
         other => named(other).as_bytes().to_vec(alloc).expect(rt, "memory"),
     }
 }
@@ -522,7 +525,7 @@ pub const TRACE: &str =
 /// Words that are no command.
 const NO_COMMAND: &str = "status: usage
     err: usage: hrthood check D | analyse D | format D | generate D | replay A R | verify D R | sample N | background D | \
-        accepts D R T | search D | scale D | explain D";
+        accepts D R T | search D | scale D | explain D | arrange D";
 
 /// A task with a passive operation that never assigns what it hands out.
 const GIVES_NOTHING: &str = "heads: package p is procedure f (w : out word); end p;

@@ -24,8 +24,8 @@ use Rattle.guarantee.specs.Arrivals.{named_arrivals}
 use Rattle.guarantee.specs.Allowed.{Allows}
 use Rattle.guarantee.specs.Bounded.{IsBounded}
 use Rattle.guarantee.specs.Programs.{program, responses, text}
-use Rattle.law_chain_bounds.specs.Served.{Serves}
-use Rattle.law_chain_bounds.proofs.Shared.DesignService.{designs-serve}
+use Rattle.law_chain_bounds.specs.Served.{Serves, ServesBy}
+use Rattle.law_chain_bounds.proofs.Shared.DesignService.{ranked-designs-serve}
 use Rattle.law_designs.specs.Rankings.{IsRanking, program_by, responses_by}
 use Rattle.law_designs.proofs.Shared.PriorityPlaces.{deadline-ranking}
 use Rattle.law_runs.proofs.Shared.RankedRuns.{ranked-replays-are-right}
@@ -61,14 +61,23 @@ right-replay limit x written v p r told proper meets fits own accepts =
     let f = flat (in_ticks x) in
     right-replay-by limit x (priorities_of f) written v p r told proper meets (deadline-ranking f) fits own accepts
 
+pub served-replay-by : (limit : ℕ) (x : Design) (ps : List ℕ) (written : List ℕ) (v : List Bound) (p : Program) (r : Arrivals) (told : List Event)
+    → IsProperDesign (within_limits is_design_name) x
+    → MeetsRules x → IsRanking (flat (in_ticks x)) ps → Fits (table_for (flat (in_ticks x)) ps).rows v → Accepts written (program_by (in_ticks x) ps)
+    → Accepts written p → IsAccepted limit p r
+    → Meaning p r told → ServesBy (in_ticks x) ps v r.until (named p told)
+served-replay-by limit x ps written v p r told proper meets ranking fits own accepts =
+    let same : program_by (in_ticks x) ps ≡ p = one_program written (program_by (in_ticks x) ps) p own accepts in
+    let P : Program → Type 0 = λ q. IsAccepted limit q r → Meaning q r told → ServesBy (in_ticks x) ps v r.until (named q told) in
+    subst P same (ranked-designs-serve limit x ps v r told proper meets ranking fits)
+
 pub served-replay : (limit : ℕ) (x : Design) (written : List ℕ) (v : List Bound) (p : Program) (r : Arrivals) (told : List Event)
     → IsProperDesign (within_limits is_design_name) x
     → MeetsRules x → Fits (table (flat (in_ticks x))).rows v → Accepts written (program (in_ticks x)) → Accepts written p → IsAccepted limit p r
     → Meaning p r told → Serves (in_ticks x) v r.until (named p told)
 served-replay limit x written v p r told proper meets fits own accepts =
-    let same : program (in_ticks x) ≡ p = one_program written (program (in_ticks x)) p own accepts in
-    let P : Program → Type 0 = λ q. IsAccepted limit q r → Meaning q r told → Serves (in_ticks x) v r.until (named q told) in
-    subst P same (designs-serve limit x v r told proper meets fits)
+    let f = flat (in_ticks x) in
+    served-replay-by limit x (priorities_of f) written v p r told proper meets (deadline-ranking f) fits own accepts
 
 pub right-generated : (limit : ℕ) (x : Design) (bytes : List ℕ) (v : List Bound) (p : Program) (r : Arrivals) (told : List Event) → Reads bytes x
     → MeetsRules x

@@ -1,5 +1,6 @@
 use Rattle.std.proofs.Common.{ℕ, Vec, Global}
 use Rattle.hrthood_top.specs.Analyses.{of_analyse}
+use Rattle.hrthood_top.specs.Arrangements.{of_arrange}
 use Rattle.hrthood_top.specs.Backgrounds.{of_background}
 use Rattle.hrthood_top.specs.Checks.{of_check}
 use Rattle.hrthood_top.specs.Explanations.{of_explain}
@@ -41,3 +42,7 @@ returns-in-Background g c =
 pub returns-in-Explain : goal.returns-in-Explain
 returns-in-Explain g c =
     rw c.in-Explain.is (design-streams (λ (v : Vec ℕ Global). v.items) of_explain c.args.design.now _ _ _ _ _ _ _ _ _ _ c.explain_text.ensures c.finish-in-Explain.ensures)
+
+pub returns-in-Arrange : goal.returns-in-Arrange
+returns-in-Arrange g c =
+    rw c.in-Arrange.is (design-streams (λ (v : Vec ℕ Global). v.items) of_arrange c.args.design.now _ _ _ _ _ _ _ _ _ _ c.arrange_text.ensures c.finish-in-Arrange.ensures)

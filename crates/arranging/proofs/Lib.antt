@@ -1,0 +1,2 @@
+mod ArrangedTexts
+mod Examples

@@ -1,3 +1,5 @@
 pub mod Lists
 pub mod Texts
 pub mod Objects
+pub mod Callings
+pub mod Numbers

@@ -7,7 +7,7 @@ use Rattle.std.proofs.lemmas.List.{length-map}
 use Rattle.seq_tree.specs.Names.{Name, same_name}
 use Rattle.seq_tree.specs.Statements.{Statements}
 use Rattle.seq_tree.specs.Faults.{Scope, block_fault}
-use Rattle.seq_tree.specs.Operations.{out_names}
+use Rattle.seq_tree.specs.Operations.{Offer, out_names}
 use Rattle.seq_tree.specs.declared.tree.Param.{Param}
 use Rattle.seq_tree.specs.declared.tree.Datum.{Datum}
 use Rattle.seq_tree.specs.declared.tree.OpName.{OpName}
@@ -299,14 +299,16 @@ module _ (w : Name → ℕ → ℕ) where
 
     -- BODIES
 
+    abbrev offer_by : OpName → Provided → Offer
+    offer_by n p = record { object = n.object; sig = p.sig }
+
     offers-same : (o : Object) → offers new (reworked_object w o) ≡ offers x o
     offers-same o = offers-of o.needs
       where
-        offers-of : (ns : List OpName) → filter_map (λ n. option_map (λ p. record { object = n.object; sig = p.sig }) (operation_named new n)) ns
-            ≡ filter_map (λ n. option_map (λ p. record { object = n.object; sig = p.sig }) (operation_named x n)) ns
+        offers-of : (ns : List OpName) → filter_map (λ n. option_map (offer_by n) (operation_named new n)) ns
+            ≡ filter_map (λ n. option_map (offer_by n) (operation_named x n)) ns
         offers-of [] = refl
-        offers-of (n ∷ ns) =
-            ap₂ cons_option (ap (option_map (λ p. record { object = n.object; sig = p.sig })) (operation-there n)) (offers-of ns)
+        offers-of (n ∷ ns) = ap₂ cons_option (ap (option_map (offer_by n)) (operation-there n)) (offers-of ns)
 
     scope-same : (o : Object) (params : List Param) (locals : List Datum) → scope new (reworked_object w o) params locals ≡ scope x o params locals
     scope-same o params locals =

@@ -84,21 +84,22 @@ filter_map-each {A} {B} h k t (x ∷ xs) same =
     by None rest = rest
     by (Some y) rest = ap (λ z. t y ∷ z) rest
 
+-- keys stay
+pub key-same : (key : AttrKey) (a : Attr) → has_key key (freed a) ≡ has_key key a
+key-same key a = by (has_key ThreadBudget a)
+  where
+    by : (b : Bool) → has_key key (if b then record { key = a.key; value = tick_limit; unit = None } else a) ≡ has_key key a
+    by true = refl
+    by false = refl
+
 -- no attribute but a budget changes
 module _ (key : AttrKey) (other : (key_place key == 4) ≡ false) where
   kept : (a : Attr) → has_key key a ≡ true → freed a ≡ a
   kept a h = let not_budget : has_key ThreadBudget a ≡ false = grind (arith, h, other) in rw not_budget refl
 
-  pub key-same : (a : Attr) → has_key key (freed a) ≡ has_key key a
-  key-same a = by (has_key ThreadBudget a)
-    where
-      by : (b : Bool) → has_key key (if b then record { key = a.key; value = tick_limit; unit = None } else a) ≡ has_key key a
-      by true = refl
-      by false = refl
-
   found-same : (xs : List Attr) → find (has_key key) (map freed xs) ≡ find (has_key key) xs
   found-same [] = refl
-  found-same (a ∷ xs) = rw (key-same a) (by (has_key key a) refl (found-same xs))
+  found-same (a ∷ xs) = rw (key-same key a) (by (has_key key a) refl (found-same xs))
     where
       by : (b : Bool) → has_key key a ≡ b → find (has_key key) (map freed xs) ≡ find (has_key key) xs
           → cond b (Some (freed a)) (find (has_key key) (map freed xs)) ≡ cond b (Some a) (find (has_key key) xs)

@@ -1,5 +1,5 @@
 -- Budgets and sizes of a design whose `work` is changed: nothing is told of them where its flat design is sound.
-use Rattle.std.proofs.Common.{◌≡◌, ℕ, suc, ◌+◌, Bool, true, false, not, ◌&&◌, ◌||◌, List, [], ◌∷◌, ◌++◌, map, filter, flat_map, filter_map, length}
+use Rattle.std.proofs.Common.{◌≡◌, ℕ, suc, ◌+◌, ◌-◌, Bool, true, false, not, ◌&&◌, ◌||◌, List, [], ◌∷◌, ◌++◌, map, filter, flat_map, filter_map, length}
 use Rattle.std.proofs.Common.{nat_lt, nat_le, refl, ap, ap₂, ◌∙◌, sym, subst, arith, Option, Some, None, option_map, option_to_list, inl, inr}
 use Rattle.std.specs.List.{list_any, cons_option}
 use Rattle.std.proofs.lemmas.Bool.{and_parts, or_parts, not-false}
@@ -24,7 +24,7 @@ use Rattle.design_rules.specs.Broken.{Broken, V14, V15Threads, V15Objects, V15Co
 use Rattle.design_rules.specs.Budgets.{body_cost, activation_cost, greatest_cost, is_over, over_budget, bad_budgets, dear_body, dear_thread, over_limit}
 use Rattle.design_rules.specs.Budgets.{thread_limit, bad_sizes}
 use Rattle.design_rules.specs.Lookups.{has_thread}
-use Rattle.design_rules.specs.Numbers.{is_required, are_common_right, are_attributes_right, are_right, works, breaks_numbers}
+use Rattle.design_rules.specs.Numbers.{is_required, is_optional, is_foreign, are_common_right, are_attributes_right, are_right, works, breaks_numbers}
 use Rattle.design_rules.specs.Rings.{thread_objects}
 use Rattle.design_rules.specs.Rules.{AreMet}
 use Rattle.law_lists.proofs.Shared.Lists.{IsIn, in-filter, in-made}
@@ -64,8 +64,14 @@ last-of a b c d e h = (and_parts (a && b && c && d) e h).1
 
 -- an object with a thread whose attributes are right has a budget in its range
 budget-there : (k : Kind) (o : Object) → has_thread k ≡ true → are_attributes_right k o ≡ true → is_required 1 tick_limit ThreadBudget o ≡ true
-budget-there kind.Cyclic o h r = (and_parts _ _ (last-of _ _ _ _ _ r)).1
-budget-there kind.Sporadic o h r = (and_parts _ _ (last-of _ _ _ _ _ r)).1
+budget-there kind.Cyclic o h r =
+    (and_parts (is_required 1 (attribute_or 0 Period o) Deadline o) (is_required 1 tick_limit ThreadBudget o)
+    (last-of (is_required 1 tick_limit Period o) (is_optional 0 tick_limit Offset o) (is_foreign Separation o) (is_foreign ArrivalJitter o)
+    (are_common_right (attribute_or 0 Period o) o) r)).1
+budget-there kind.Sporadic o h r =
+    (and_parts (is_required 1 (attribute_or 0 Separation o) Deadline o) (is_required 1 tick_limit ThreadBudget o)
+    (last-of (is_required 1 tick_limit Separation o) (is_optional 0 (attribute_or 0 Separation o - 1) ArrivalJitter o) (is_foreign Period o)
+    (is_foreign Offset o) (are_common_right (attribute_or 0 Separation o) o) r)).1
 budget-there kind.Passive o h r = cc
 budget-there kind.Active o h r = cc
 budget-there kind.Protected o h r = cc

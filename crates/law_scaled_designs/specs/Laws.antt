@@ -1,13 +1,19 @@
 -- What the rules say of a design whose `work` is scaled: it is a design of the same rules, so that what is said of its flat design leads back
 -- to a design that a verb takes.
 -- That only execution times change is what sensitivity analysis rests on (Lehoczky, Sha and Ding 1989).
-use Rattle.std.specs.Prelude.{◌≡◌, ◌≤◌, ℕ, None}
+use Rattle.std.specs.Prelude.{◌≡◌, ◌≤◌, ℕ, List, None}
 use Rattle.ods_tree.specs.Designs.{Design}
 use Rattle.ods_tree.specs.Flattening.{flat}
 use Rattle.ods_tree.specs.Ticks.{in_ticks}
+use Rattle.rt_response.specs.declared.rows.Bound.{Bound}
+use Rattle.rt_response.specs.declared.rows.Miss.{Miss}
+use Rattle.rt_response.specs.Response.{Fits}
+use Rattle.rt_response.specs.Rounds.{IsMiss}
+use Rattle.analysis.specs.Tables.{table}
 use Rattle.design_rules.specs.Rules.{MeetsRules}
-use Rattle.law_scaling.specs.Scaling.{scaled, most_per_mille}
+use Rattle.law_scaling.specs.Scaling.{scaled}
 use Rattle.law_scaling.specs.Parts.{first_dear}
+use Rattle.law_scaling.specs.Holding.{Holds}
 use Rattle.law_scaling.specs.Designs.{scaled_design}
 
 -- a scaled design in ticks is the design in ticks, scaled: `work` is counted in ticks, and a budget is the greatest number of them
@@ -22,3 +28,25 @@ ScaledDesignsRunScaled = (x : Design) (k : ℕ) → flat (in_ticks (scaled_desig
 abbrev pub ScaledDesignsMeetTheRules : Type 0
 ScaledDesignsMeetTheRules =
     (x : Design) (k : ℕ) → 1 ≤ k → MeetsRules x → first_dear (scaled k (flat (in_ticks x))) ≡ None → MeetsRules (scaled_design k x)
+
+-- a design that meets the rules and has bounds within its limits
+pub record IsBoundedDesign (x : Design) : Type 0 where
+  pub meets : MeetsRules x
+  pub bounds : List Bound
+  pub fits : Fits (table (flat (in_ticks x))).rows bounds
+
+-- where a design holds at so many per mille, the design at as many or less has bounds
+abbrev pub HoldingDesignsAreBounded : Type 0
+HoldingDesignsAreBounded =
+    (x : Design) (j k : ℕ) → 1 ≤ j → j ≤ k → MeetsRules x → Holds (flat (in_ticks x)) k → IsBoundedDesign (scaled_design j x)
+
+-- a design that meets the rules, and of which this value is over its limit first
+pub record IsLateDesign (x : Design) (miss : Miss) : Type 0 where
+  pub meets : MeetsRules x
+  pub first : IsMiss (table (flat (in_ticks x))).rows miss
+
+-- where no body or thread is too dear at so many per mille and a value is over its limit, it is that value of the scaled design too
+abbrev pub MissesAreOfScaledDesigns : Type 0
+MissesAreOfScaledDesigns =
+    (x : Design) (k : ℕ) (miss : Miss) → 1 ≤ k → MeetsRules x → first_dear (scaled k (flat (in_ticks x))) ≡ None
+    → IsMiss (table (scaled k (flat (in_ticks x)))).rows miss → IsLateDesign (scaled_design k x) miss

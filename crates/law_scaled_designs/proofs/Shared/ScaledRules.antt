@@ -9,6 +9,7 @@ use Rattle.seq_tree.specs.Limits.{tick_limit, is_within}
 use Rattle.seq_tree.specs.Names.{Name}
 use Rattle.ods_tree.specs.Attributes.{has_key}
 use Rattle.ods_tree.specs.Designs.{Object, Tree, Trees, Node, Empty, With, Design}
+use Rattle.ods_tree.specs.Flats.{Flat}
 use Rattle.ods_tree.specs.Flattening.{flat}
 use Rattle.ods_tree.specs.Ticks.{count_in_ticks, attribute_in_ticks, object_in_ticks, tree_in_ticks, trees_in_ticks, tick_time, ticked, in_ticks}
 use Rattle.ods_tree.specs.Walk.{Standing, objects, only_if}
@@ -17,7 +18,11 @@ use Rattle.ods_tree.specs.declared.design.AttrKey.TheVariants.{ThreadBudget}
 use Rattle.ods_tree.specs.declared.design.TickUnit.{TickUnit}
 use Rattle.ods_tree.specs.declared.design.VersionTwo.{VersionTwo}
 use Rattle.ods_tree.proofs.Shared.TickLaws.{ticks-version}
+use Rattle.rt_response.specs.declared.rows.Miss.{Miss}
+use Rattle.rt_response.specs.Response.{Fits}
+use Rattle.rt_response.specs.Rounds.{IsMiss}
 use Rattle.analysis.specs.Sound.{IsSound}
+use Rattle.analysis.specs.Tables.{table}
 use Rattle.design_rules.specs.Broken.{Broken, V11, V17}
 use Rattle.design_rules.specs.Numbers.{breaks_numbers, bad_costs, bad_numbers}
 use Rattle.design_rules.specs.Rules.{Version, Clash, KeptName, Include, Operation, Fitting, Stranger, Absence, Use, CallRing, ObjectRing}
@@ -30,9 +35,12 @@ use Rattle.law_designs.proofs.Shared.SoundDesigns.{flat-sound}
 use Rattle.law_scaling.specs.Working.{reworked}
 use Rattle.law_scaling.specs.Scaling.{scaled, scaled_ticks}
 use Rattle.law_scaling.specs.Parts.{first_dear}
+use Rattle.law_scaling.specs.Holding.{Holds}
 use Rattle.law_scaling.specs.Designs.{freed, reworked_object, reworked_tree, reworked_trees, reworked_design, scaled_design}
 use Rattle.law_scaling.proofs.Shared.Designs.{standing, flat-same}
+use Rattle.law_scaling.proofs.Shared.Holding.{holds-less}
 use Rattle.law_scaling.proofs.Shared.Sound.{sound-still}
+use Rattle.law_scaled_designs.specs.Laws.{IsBoundedDesign, IsLateDesign}
 use Rattle.law_scaled_designs.proofs.Objects.{objects-same, clashes-same, kept-same, bad-includes-same, bad-operations-same, bad-fittings-same}
 use Rattle.law_scaled_designs.proofs.Objects.{strangers-same, absent-same, forbidden-same, idle-same, bad-bodies-same}
 use Rattle.law_scaled_designs.proofs.Callings.{ringed-op, ringed-object, ringed-thread, bad-sources-same, bad-separations-same}
@@ -178,3 +186,19 @@ scaled-meets x k some met cheap =
     let P : Design → Type 0 = λ y. AreMet (scaled_design k x) y in
     subst P (sym (scaled-ticks x k))
     (met-still (λ name. scaled_ticks k) (λ name n h. scaled-ranged k n some h) x (in_ticks x) met cheap)
+
+pub scaled-bounded : (x : Design) (j k : ℕ) → 1 ≤ j → j ≤ k → MeetsRules x → Holds (flat (in_ticks x)) k → IsBoundedDesign (scaled_design j x)
+scaled-bounded x j k some less met holds =
+    let here = holds-less None (flat (in_ticks x)) j k less holds in
+    let F : Flat → Type 0 = λ f. Fits (table f).rows here.bounds in
+    record {
+      meets = scaled-meets x j some met here.cheap;
+      bounds = here.bounds;
+      fits = subst F (sym (scaled-flat x j)) here.fits;
+    }
+
+pub scaled-late : (x : Design) (k : ℕ) (miss : Miss) → 1 ≤ k → MeetsRules x → first_dear (scaled k (flat (in_ticks x))) ≡ None
+    → IsMiss (table (scaled k (flat (in_ticks x)))).rows miss → IsLateDesign (scaled_design k x) miss
+scaled-late x k miss some met cheap first =
+    let M : Flat → Type 0 = λ f. IsMiss (table f).rows miss in
+    record { meets = scaled-meets x k some met cheap; first = subst M (sym (scaled-flat x k)) first }

@@ -4,11 +4,10 @@ use Rattle.seq_tree.specs.Statements.{Statement, Null, Work}
 use Rattle.ods_tree.specs.Designs.{Design}
 use Rattle.ods_tree.specs.Flattening.{flat}
 use Rattle.ods_tree.specs.Ticks.{in_ticks}
-use Rattle.ods_tree.specs.declared.design.Attr.{Attr}
-use Rattle.ods_tree.specs.declared.design.AttrKey.{AttrKey}
 use Rattle.ods_tree.specs.declared.design.AttrKey.TheVariants.{Period, Deadline, ThreadBudget}
 use Rattle.ods_tree.specs.declared.design.TickUnit.TheVariants.{Us, Ms}
 use Rattle.ods_tree.proofs.Shared.Short.{attr, cyc, cyc_with, pas, design, several}
+use Rattle.ods_tree.proofs.Shared.Versions.{version, timed, design_of_two}
 use Rattle.design_rules.specs.Broken.{V11, V14, V15Cost}
 use Rattle.design_rules.specs.Budgets.{bad_budgets, bad_sizes}
 use Rattle.design_rules.specs.Numbers.{bad_numbers}
@@ -58,12 +57,9 @@ both-told : (bad_sizes (scaled_design 1000000 both) ≡ V15Cost (codes "a") None
 both-told = (refl, refl)
 
 -- a design with units of time, whose budget is 40 ticks of half a millisecond
-abbrev milliseconds : AttrKey → ℕ → Attr
-milliseconds key n = record { key = key; value = n; unit = Some Ms }
+abbrev half_milliseconds : Design
+half_milliseconds = design_of_two (version 500 Us None)
+    (cyc_with (codes "a") (timed Period 50 Ms ∷ timed Deadline 50 Ms ∷ timed ThreadBudget 20 Ms ∷ []) [] (Work 3 ∷ []))
 
-abbrev timed : Design
-timed = record (design (cyc_with (codes "a") (milliseconds Period 50 ∷ milliseconds Deadline 50 ∷ milliseconds ThreadBudget 20 ∷ []) [] (Work 3 ∷ [])))
-    { version = Some (record { tick = 500; unit = Us; priorities = None }) }
-
-timed-scaled : (in_ticks (scaled_design 2000 timed) ≡ scaled_design 2000 (in_ticks timed)) × (version_faults (scaled_design 2000 timed) ≡ [])
-timed-scaled = (refl, refl)
+units-scaled : (in_ticks (scaled_design 2000 half_milliseconds) ≡ scaled_design 2000 (in_ticks half_milliseconds)) × (version_faults (scaled_design 2000 half_milliseconds) ≡ [])
+units-scaled = (refl, refl)

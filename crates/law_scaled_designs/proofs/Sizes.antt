@@ -1,6 +1,6 @@
 -- Budgets and sizes of a design whose `work` is changed: nothing is told of them where its flat design is sound.
 use Rattle.std.proofs.Common.{◌≡◌, ℕ, suc, ◌+◌, ◌-◌, Bool, true, false, not, ◌&&◌, ◌||◌, List, [], ◌∷◌, ◌++◌, map, filter, flat_map, filter_map, length}
-use Rattle.std.proofs.Common.{nat_lt, nat_le, refl, ap, ap₂, ◌∙◌, sym, subst, arith, Option, Some, None, option_map, option_to_list, inl, inr}
+use Rattle.std.proofs.Common.{nat_lt, nat_le, refl, ap, ap₂, ◌∙◌, sym, subst, arith, Option, Some, None, option_map, option_to_list, inl, inr, ◌⊎◌}
 use Rattle.std.specs.List.{list_any, cons_option}
 use Rattle.std.proofs.lemmas.Bool.{and_parts, or_parts, not-false}
 use Rattle.std.proofs.lemmas.List.{length-map}
@@ -27,8 +27,8 @@ use Rattle.design_rules.specs.Lookups.{has_thread}
 use Rattle.design_rules.specs.Numbers.{is_required, is_optional, is_foreign, are_common_right, are_attributes_right, are_right, works, breaks_numbers}
 use Rattle.design_rules.specs.Rings.{thread_objects}
 use Rattle.design_rules.specs.Rules.{AreMet}
-use Rattle.law_lists.proofs.Shared.Lists.{IsIn, in-filter, in-made}
-use Rattle.law_designs.proofs.Shared.Lists.{from-map}
+use Rattle.law_lists.proofs.Shared.Lists.{IsIn, in-filter, in-made, in-some}
+use Rattle.law_designs.proofs.Shared.Lists.{from-map, in-cases, in-none}
 use Rattle.law_designs.proofs.Shared.Flattened.{terminal-object}
 use Rattle.law_designs.proofs.Shared.ObjectRules.{numbers-right, thread-count, object-count}
 use Rattle.law_scaling.specs.Working.{reworked_block, reworked}
@@ -76,7 +76,15 @@ budget-there kind.Passive o h r = cc
 budget-there kind.Active o h r = cc
 budget-there kind.Protected o h r = cc
 
-module _ (written x : Design) (met : AreMet written x) (w : Name → ℕ → ℕ) (sound : IsSound (reworked w (flat x))) where
+-- that a body or a thread costs too much
+abbrev pub TellsCost : Broken → Type 0
+TellsCost told = (object : Name) × (op : Option Name) × (told ≡ V15Cost object op)
+
+told-cost : (object : Name) (op : Option Name) (told : Broken) (b : Bool) → only_if b (V15Cost object op) ≡ Some told → TellsCost told
+told-cost object op told true e = (object, op, (let k : Some (V15Cost object op) ≡ Some told = e in cc))
+told-cost object op told false e = absurd (let k : None ≡ Some told = e in cc)
+
+module _ (written x : Design) (met : AreMet written x) (w : Name → ℕ → ℕ) where
   abbrev new : Design
   new = reworked_design w x
 
@@ -119,39 +127,76 @@ module _ (written x : Design) (met : AreMet written x) (w : Name → ℕ → ℕ
   cost-is c b =
       ap₂ (λ (g : Flat) t. block_cost x.costs (flat_services g) t) (flat-same w x) (resolved-same w x c b)
 
-  no-dear-body : (s : Standing) (b : Body) → IsIn s (terminals x) → IsIn b s.own.bodies
-      → dear_body new (reworked_object w s.own) (reworked_body (w s.own.name) b) ≡ None
-  no-dear-body s b h i =
-      let cheap : nat_lt greatest_cost (body_cost new (reworked_block (w s.own.name) b.block)) ≡ false
-      = ap (nat_lt greatest_cost) (cost-is (w s.own.name) b.block) ∙ not-dear _ (body-within written x met w sound s b h i) in
-      ap (λ t. only_if t (V15Cost s.own.name (Some b.name))) cheap
-
-  no-dear-thread : (s : Standing) (b : Option Statements) → IsIn s (terminals x) → s.own.thread ≡ b
-      → filter_map (dear_thread new (reworked_object w s.own)) (option_to_list (option_map (reworked_block (w s.own.name)) b)) ≡ []
-  no-dear-thread s None h e = refl
-  no-dear-thread s (Some b) h e =
-      let cheap : nat_lt greatest_cost (activation_cost new (reworked_block (w s.own.name) b)) ≡ false
-      = ap (λ n. nat_lt greatest_cost (n + x.costs.finish)) (cost-is (w s.own.name) b)
-      ∙ not-dear _ (thread-within written x met w sound s b h e) in
-      ap (λ t. cons_option (only_if t (V15Cost s.own.name None)) []) cheap
-
   within-limit : (limit count : ℕ) (told : Broken) → nat_lt limit count ≡ false → over_limit limit count told ≡ []
   within-limit limit count told h = ap (λ b. option_to_list (only_if b told)) h
 
-  pub no-bad-sizes : bad_sizes new ≡ []
-  no-bad-sizes =
+  no-bad-counts : (over_limit (thread_limit (stated_priorities x)) (length (thread_objects new)) (V15Threads (length (thread_objects new))) ≡ [])
+      × (over_limit 500 (length (objects new)) (V15Objects (length (objects new))) ≡ [])
+  no-bad-counts =
       let threads : length (thread_objects new) ≡ length (thread_objects x)
       = ap length (threads-same w x) ∙ length-map (thread_objects x) (reworked_object w) in
-      let all : length (objects new) ≡ length (objects x) = ap length (objects-same w x) ∙ length-map (objects x) (standing w) in
-      ap₂ (λ a b. a ++ b)
-      (within-limit (thread_limit (stated_priorities x)) (length (thread_objects new)) (V15Threads (length (thread_objects new)))
-      (ap (nat_lt (thread_limit (stated_priorities x))) threads ∙ thread-count written x met))
-      (ap₂ (λ a b. a ++ b)
-      (within-limit 500 (length (objects new)) (V15Objects (length (objects new))) (ap (nat_lt 500) all ∙ object-count written x met))
-      (ap (flat_map (λ s. filter_map (dear_body new s.own) s.own.bodies ++ filter_map (dear_thread new s.own) (option_to_list s.own.thread)))
-      (terminals-same w x)
-      ∙ none-flat (λ s. filter_map (dear_body new s.own) s.own.bodies ++ filter_map (dear_thread new s.own) (option_to_list s.own.thread))
-      (standing w) (terminals x)
-      (λ s h. ap₂ (λ a b. a ++ b)
-      (none-taken (dear_body new (reworked_object w s.own)) (reworked_body (w s.own.name)) s.own.bodies (λ b i. no-dear-body s b h i))
-      (no-dear-thread s s.own.thread h refl))))
+      let all : length (objects new) ≡ length (objects x) = ap length (objects-same w x) ∙ length-map (objects x) (standing w) in (
+        within-limit (thread_limit (stated_priorities x)) (length (thread_objects new)) (V15Threads (length (thread_objects new)))
+        (ap (nat_lt (thread_limit (stated_priorities x))) threads ∙ thread-count written x met),
+        within-limit 500 (length (objects new)) (V15Objects (length (objects new))) (ap (nat_lt 500) all ∙ object-count written x met),
+      )
+
+  -- so what is told of its sizes is a body or a thread that is too dear
+  abbrev dear_parts : Standing → List Broken
+  dear_parts s = filter_map (dear_body new s.own) s.own.bodies ++ filter_map (dear_thread new s.own) (option_to_list s.own.thread)
+
+  pub size-told : (told : Broken) → IsIn told (bad_sizes new) → TellsCost told
+  size-told told h =
+      let behind = in-cases _ (over_limit 500 (length (objects new)) (V15Objects (length (objects new))) ++ flat_map dear_parts (terminals new)) told h in
+      sized (over_limit (thread_limit (stated_priorities x)) (length (thread_objects new)) (V15Threads (length (thread_objects new))))
+      (over_limit 500 (length (objects new)) (V15Objects (length (objects new)))) no-bad-counts.0 no-bad-counts.1 behind
+    where
+      part : (s : Standing) → IsIn told (filter_map (dear_body new s.own) s.own.bodies)
+          ⊎ IsIn told (filter_map (dear_thread new s.own) (option_to_list s.own.thread)) → TellsCost told
+      part s (inl k) =
+          let b = in-made (dear_body new s.own) s.own.bodies told k in
+          told-cost s.own.name (Some b.0.name) told (nat_lt greatest_cost (body_cost new b.0.block)) b.2
+      part s (inr k) =
+          let b = in-made (dear_thread new s.own) (option_to_list s.own.thread) told k in
+          told-cost s.own.name None told (nat_lt greatest_cost (activation_cost new b.0)) b.2
+
+      sized : (ts os : List Broken) → ts ≡ [] → os ≡ [] → IsIn told ts ⊎ IsIn told (os ++ flat_map dear_parts (terminals new)) → TellsCost told
+      sized ts os e g (inl k) = absurd (in-none ts told e k)
+      sized ts os e g (inr k) = later os g (in-cases os (flat_map dear_parts (terminals new)) told k)
+        where
+          later : (os : List Broken) → os ≡ [] → IsIn told os ⊎ IsIn told (flat_map dear_parts (terminals new)) → TellsCost told
+          later os g (inl k) = absurd (in-none os told g k)
+          later os g (inr k) =
+              let s = in-some dear_parts (terminals new) told k in
+              part s.0 (in-cases (filter_map (dear_body new s.0.own) s.0.own.bodies)
+              (filter_map (dear_thread new s.0.own) (option_to_list s.0.own.thread)) told s.2)
+
+  -- and where its flat design is sound, nothing is
+  module _ (sound : IsSound (reworked w (flat x))) where
+    no-dear-body : (s : Standing) (b : Body) → IsIn s (terminals x) → IsIn b s.own.bodies
+        → dear_body new (reworked_object w s.own) (reworked_body (w s.own.name) b) ≡ None
+    no-dear-body s b h i =
+        let cheap : nat_lt greatest_cost (body_cost new (reworked_block (w s.own.name) b.block)) ≡ false
+        = ap (nat_lt greatest_cost) (cost-is (w s.own.name) b.block) ∙ not-dear _ (body-within written x met w sound s b h i) in
+        ap (λ t. only_if t (V15Cost s.own.name (Some b.name))) cheap
+
+    no-dear-thread : (s : Standing) (b : Option Statements) → IsIn s (terminals x) → s.own.thread ≡ b
+        → filter_map (dear_thread new (reworked_object w s.own)) (option_to_list (option_map (reworked_block (w s.own.name)) b)) ≡ []
+    no-dear-thread s None h e = refl
+    no-dear-thread s (Some b) h e =
+        let cheap : nat_lt greatest_cost (activation_cost new (reworked_block (w s.own.name) b)) ≡ false
+        = ap (λ n. nat_lt greatest_cost (n + x.costs.finish)) (cost-is (w s.own.name) b)
+        ∙ not-dear _ (thread-within written x met w sound s b h e) in
+        ap (λ t. cons_option (only_if t (V15Cost s.own.name None)) []) cheap
+
+    pub no-bad-sizes : bad_sizes new ≡ []
+    no-bad-sizes =
+        ap₂ (λ a b. a ++ b) no-bad-counts.0
+        (ap₂ (λ a b. a ++ b) no-bad-counts.1
+        (ap (flat_map (λ s. filter_map (dear_body new s.own) s.own.bodies ++ filter_map (dear_thread new s.own) (option_to_list s.own.thread)))
+        (terminals-same w x)
+        ∙ none-flat (λ s. filter_map (dear_body new s.own) s.own.bodies ++ filter_map (dear_thread new s.own) (option_to_list s.own.thread))
+        (standing w) (terminals x)
+        (λ s h. ap₂ (λ a b. a ++ b)
+        (none-taken (dear_body new (reworked_object w s.own)) (reworked_body (w s.own.name)) s.own.bodies (λ b i. no-dear-body s b h i))
+        (no-dear-thread s s.own.thread h refl))))

@@ -1,7 +1,8 @@
 -- What the rules say of a design whose `work` is scaled: it is a design of the same rules, so that what is said of its flat design leads back
 -- to a design that a verb takes.
 -- That only execution times change is what sensitivity analysis rests on (Lehoczky, Sha and Ding 1989).
-use Rattle.std.specs.Prelude.{◌≡◌, ◌≤◌, ℕ, List, None}
+use Rattle.std.specs.Prelude.{◌≡◌, ◌≤◌, ℕ, List, Option, Some, None}
+use Rattle.seq_tree.specs.Names.{Name}
 use Rattle.ods_tree.specs.Designs.{Design}
 use Rattle.ods_tree.specs.Flattening.{flat}
 use Rattle.ods_tree.specs.Ticks.{in_ticks}
@@ -10,9 +11,10 @@ use Rattle.rt_response.specs.declared.rows.Miss.{Miss}
 use Rattle.rt_response.specs.Response.{Fits}
 use Rattle.rt_response.specs.Rounds.{IsMiss}
 use Rattle.analysis.specs.Tables.{table}
-use Rattle.design_rules.specs.Rules.{MeetsRules}
+use Rattle.design_rules.specs.Broken.{Broken, V15Cost}
+use Rattle.design_rules.specs.Rules.{MeetsRules, IsFirstBroken}
 use Rattle.law_scaling.specs.Scaling.{scaled}
-use Rattle.law_scaling.specs.Parts.{first_dear}
+use Rattle.law_scaling.specs.Parts.{Part, first_dear}
 use Rattle.law_scaling.specs.Holding.{Holds}
 use Rattle.law_scaling.specs.Designs.{scaled_design}
 
@@ -50,3 +52,15 @@ abbrev pub MissesAreOfScaledDesigns : Type 0
 MissesAreOfScaledDesigns =
     (x : Design) (k : ℕ) (miss : Miss) → 1 ≤ k → MeetsRules x → first_dear (scaled k (flat (in_ticks x))) ≡ None
     → IsMiss (table (scaled k (flat (in_ticks x)))).rows miss → IsLateDesign (scaled_design k x) miss
+
+-- a design that doesn't meet the rules, and breaks that first by which bodies and threads may not cost too much
+pub record IsDearDesign (x : Design) : Type 0 where
+  pub breaks : MeetsRules x → ⊥
+  pub told : (told : Broken) → IsFirstBroken x told → (object : Name) × (op : Option Name) × (told ≡ V15Cost object op)
+
+-- where a body or a thread is too dear at so many per mille, the scaled design is refused for a body or a thread: the first in order of writing,
+-- and not always the first of the flat design
+abbrev pub DearDesignsAreRefused : Type 0
+DearDesignsAreRefused =
+    (x : Design) (k : ℕ) (part : Part) → 1 ≤ k → MeetsRules x → first_dear (scaled k (flat (in_ticks x))) ≡ Some part
+    → IsDearDesign (scaled_design k x)

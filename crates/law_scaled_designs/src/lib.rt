@@ -14,7 +14,7 @@
 //! - `ScaledRules`: a scaled design in ticks, what runs of it, and that it meets the rules.
 #![tactic(auto)]
 
-ghost use Rattle.law_scaled_designs.specs.Laws.{HoldingDesignsAreBounded, MissesAreOfScaledDesigns};
+ghost use Rattle.law_scaled_designs.specs.Laws.{DearDesignsAreRefused, HoldingDesignsAreBounded, MissesAreOfScaledDesigns};
 ghost use Rattle.law_scaled_designs.specs.Laws.{ScaledDesignsAreInTicks, ScaledDesignsMeetTheRules, ScaledDesignsRunScaled};
 
 /// A scaled design in ticks is the design in ticks, scaled.
@@ -42,4 +42,9 @@ pub fn holding_designs_are_bounded()
 /// The first value over its limit at so many per mille, where no body or thread is too dear, is that of the scaled design, which meets the rules.
 pub fn misses_are_of_scaled_designs()
     ensures { MissesAreOfScaledDesigns }
+{}
+
+/// Where a body or a thread is too dear at so many per mille, the first rule that the scaled design breaks is that of costs.
+pub fn dear_designs_are_refused()
+    ensures { DearDesignsAreRefused }
 {}

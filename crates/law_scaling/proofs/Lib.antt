@@ -3,6 +3,5 @@ pub mod Services
 pub mod Sections
 pub mod Tables
 pub mod Solutions
-pub mod Cheap
 pub mod Shared
 mod Examples

@@ -26,26 +26,29 @@ use Rattle.analysis.specs.Tables.{table}
 use Rattle.design_rules.specs.Broken.{Broken, V11, V17}
 use Rattle.design_rules.specs.Numbers.{breaks_numbers, bad_costs, bad_numbers}
 use Rattle.design_rules.specs.Rules.{Version, Clash, KeptName, Include, Operation, Fitting, Stranger, Absence, Use, CallRing, ObjectRing}
-use Rattle.design_rules.specs.Rules.{StartRing, Source, Number, IdleActive, BodyFault, Budget, Size, Spacing, IsListed, AreMet, MeetsRules}
+use Rattle.design_rules.specs.Rules.{StartRing, Source, Number, IdleActive, BodyFault, Budget, Size, Spacing, IsListed, Rule, Offends, IsFirst, AreMet, MeetsRules}
+use Rattle.design_rules.specs.Rules.{IsFirstBroken}
+use Rattle.design_rules.specs.Budgets.{bad_sizes}
 use Rattle.design_rules.specs.Versions.{bad_tick, bad_priorities, misses_ticks, breaks_ticks, bad_version, version_faults}
-use Rattle.law_lists.proofs.Shared.Lists.{IsIn}
+use Rattle.law_lists.proofs.Shared.Lists.{IsIn, at-in}
 use Rattle.law_designs.proofs.Shared.Lists.{none-told}
 use Rattle.law_designs.proofs.Shared.ObjectRules.{none_listed, nothing_first, numbers-right}
 use Rattle.law_designs.proofs.Shared.SoundDesigns.{flat-sound}
 use Rattle.law_scaling.specs.Working.{reworked}
 use Rattle.law_scaling.specs.Scaling.{scaled, scaled_ticks}
-use Rattle.law_scaling.specs.Parts.{first_dear}
+use Rattle.law_scaling.specs.Parts.{Part, first_dear}
 use Rattle.law_scaling.specs.Holding.{Holds}
 use Rattle.law_scaling.specs.Designs.{freed, reworked_object, reworked_tree, reworked_trees, reworked_design, scaled_design}
+use Rattle.law_scaling.proofs.Shared.Cheap.{sound-cheap}
 use Rattle.law_scaling.proofs.Shared.Designs.{standing, flat-same}
 use Rattle.law_scaling.proofs.Shared.Holding.{holds-less}
 use Rattle.law_scaling.proofs.Shared.Sound.{sound-still}
-use Rattle.law_scaled_designs.specs.Laws.{IsBoundedDesign, IsLateDesign}
+use Rattle.law_scaled_designs.specs.Laws.{IsBoundedDesign, IsLateDesign, IsDearDesign}
 use Rattle.law_scaled_designs.proofs.Objects.{objects-same, clashes-same, kept-same, bad-includes-same, bad-operations-same, bad-fittings-same}
 use Rattle.law_scaled_designs.proofs.Objects.{strangers-same, absent-same, forbidden-same, idle-same, bad-bodies-same}
 use Rattle.law_scaled_designs.proofs.Callings.{ringed-op, ringed-object, ringed-thread, bad-sources-same, bad-separations-same}
 use Rattle.law_scaled_designs.proofs.Numbers.{IsRanged, numbers-still}
-use Rattle.law_scaled_designs.proofs.Sizes.{no-bad-budgets, no-bad-sizes, none-taken}
+use Rattle.law_scaled_designs.proofs.Sizes.{no-bad-budgets, no-bad-sizes, none-taken, size-told, TellsCost}
 
 -- IN TICKS
 
@@ -133,31 +136,34 @@ module _ (w : Name → ℕ → ℕ) where
   moved : (all was : List Broken) (place : ℕ) (told : Broken) → all ≡ was → IsListed all place told → IsListed was place told
   moved all was place told e h = ap (λ xs. slice_get xs place) (sym e) ∙ h
 
+  -- an offender is one of its sizes
+  pub only-sizes : IsRanged w → (written x : Design) → AreMet written x → (rule : Rule) (place : ℕ) (told : Broken)
+      → Offends (reworked_design w written) (reworked_design w x) rule place told → IsListed (bad_sizes (reworked_design w x)) place told
+  only-sizes ranged written x met Version place told h = absurd (none-at (version_faults (reworked_design w written)) place told (version-still written.version written (none_listed (version_faults written) (met Version))) h)
+  only-sizes ranged written x met Clash place told h = absurd (met Clash place told (moved _ _ place told (clashes-same w x) h))
+  only-sizes ranged written x met KeptName place told h = absurd (met KeptName place told (moved _ _ place told (kept-same w x) h))
+  only-sizes ranged written x met Include place told h = absurd (met Include place told (moved _ _ place told (bad-includes-same w x) h))
+  only-sizes ranged written x met Operation place told h = absurd (met Operation place told (moved _ _ place told (bad-operations-same w x) h))
+  only-sizes ranged written x met Fitting place told h = absurd (met Fitting place told (moved _ _ place told (bad-fittings-same w x) h))
+  only-sizes ranged written x met Stranger place told h = absurd (met Stranger place told (moved _ _ place told (strangers-same w x) h))
+  only-sizes ranged written x met Absence place told h = absurd (met Absence place told (moved _ _ place told (absent-same w x) h))
+  only-sizes ranged written x met Use place told h = absurd (met Use place told (moved _ _ place told (forbidden-same w x) h))
+  only-sizes ranged written x met CallRing place told h = absurd (met CallRing place told (ringed-op w x place told h))
+  only-sizes ranged written x met ObjectRing place told h = absurd (met ObjectRing place told (ringed-object w x place told h))
+  only-sizes ranged written x met StartRing place told h = absurd (met StartRing place told (ringed-thread w x place told h))
+  only-sizes ranged written x met Source place told h = absurd (met Source place told (moved _ _ place told (bad-sources-same w x) h))
+  only-sizes ranged written x met Number place told h = absurd (none-at _ place told (numbers-none ranged written x met) h)
+  only-sizes ranged written x met IdleActive place told h = absurd (met IdleActive place told (moved _ _ place told (idle-same w x) h))
+  only-sizes ranged written x met BodyFault place told h = absurd (met BodyFault place told (moved _ _ place told (bad-bodies-same w x) h))
+  only-sizes ranged written x met Budget place told h = absurd (none-at _ place told (no-bad-budgets written x met w) h)
+  only-sizes ranged written x met Size place told h = h
+  only-sizes ranged written x met Spacing place told h = absurd (met Spacing place told (moved _ _ place told (bad-separations-same w x) h))
+
   pub met-still : IsRanged w → (written x : Design) → AreMet written x → first_dear (reworked w (flat x)) ≡ None
       → AreMet (reworked_design w written) (reworked_design w x)
-  met-still ranged written x met cheap Version place told h =
-      none-at (version_faults (reworked_design w written)) place told
-      (version-still written.version written (none_listed (version_faults written) (met Version))) h
-  met-still ranged written x met cheap Clash place told h = met Clash place told (moved _ _ place told (clashes-same w x) h)
-  met-still ranged written x met cheap KeptName place told h = met KeptName place told (moved _ _ place told (kept-same w x) h)
-  met-still ranged written x met cheap Include place told h = met Include place told (moved _ _ place told (bad-includes-same w x) h)
-  met-still ranged written x met cheap Operation place told h = met Operation place told (moved _ _ place told (bad-operations-same w x) h)
-  met-still ranged written x met cheap Fitting place told h = met Fitting place told (moved _ _ place told (bad-fittings-same w x) h)
-  met-still ranged written x met cheap Stranger place told h = met Stranger place told (moved _ _ place told (strangers-same w x) h)
-  met-still ranged written x met cheap Absence place told h = met Absence place told (moved _ _ place told (absent-same w x) h)
-  met-still ranged written x met cheap Use place told h = met Use place told (moved _ _ place told (forbidden-same w x) h)
-  met-still ranged written x met cheap CallRing place told h = met CallRing place told (ringed-op w x place told h)
-  met-still ranged written x met cheap ObjectRing place told h = met ObjectRing place told (ringed-object w x place told h)
-  met-still ranged written x met cheap StartRing place told h = met StartRing place told (ringed-thread w x place told h)
-  met-still ranged written x met cheap Source place told h = met Source place told (moved _ _ place told (bad-sources-same w x) h)
-  met-still ranged written x met cheap Number place told h = none-at _ place told (numbers-none ranged written x met) h
-  met-still ranged written x met cheap IdleActive place told h = met IdleActive place told (moved _ _ place told (idle-same w x) h)
-  met-still ranged written x met cheap BodyFault place told h = met BodyFault place told (moved _ _ place told (bad-bodies-same w x) h)
-  met-still ranged written x met cheap Budget place told h =
-      none-at _ place told (no-bad-budgets written x met w (sound-still w (flat x) (flat-sound written x met) cheap)) h
-  met-still ranged written x met cheap Size place told h =
-      none-at _ place told (no-bad-sizes written x met w (sound-still w (flat x) (flat-sound written x met) cheap)) h
-  met-still ranged written x met cheap Spacing place told h = met Spacing place told (moved _ _ place told (bad-separations-same w x) h)
+  met-still ranged written x met cheap rule place told h =
+      none-at (bad_sizes (reworked_design w x)) place told
+      (no-bad-sizes written x met w (sound-still w (flat x) (flat-sound written x met) cheap)) (only-sizes ranged written x met rule place told h)
 
 -- SCALED DESIGNS
 
@@ -202,3 +208,24 @@ pub scaled-late : (x : Design) (k : ℕ) (miss : Miss) → 1 ≤ k → MeetsRule
 scaled-late x k miss some met cheap first =
     let M : Flat → Type 0 = λ f. IsMiss (table f).rows miss in
     record { meets = scaled-meets x k some met cheap; first = subst M (sym (scaled-flat x k)) first }
+
+-- what a scaled design breaks first is that a body or a thread costs too much
+told-first : (x : Design) (k : ℕ) → 1 ≤ k → MeetsRules x → (y : Design) → y ≡ scaled_design k (in_ticks x) → (told : Broken)
+    → IsFirst (scaled_design k x) y told → TellsCost told
+told-first x k some met y e told first =
+    let w : Name → ℕ → ℕ = λ name. scaled_ticks k in
+    let O : Design → Type 0 = λ z. Offends (scaled_design k x) z first.rule first.place told in
+    let listed = only-sizes w (λ name n h. scaled-ranged k n some h) x (in_ticks x) met first.rule first.place told (subst O e first.offends) in
+    size-told x (in_ticks x) met w told (at-in (bad_sizes (reworked_design w (in_ticks x))) first.place told listed)
+
+pub scaled-dear : (x : Design) (k : ℕ) (part : Part) → 1 ≤ k → MeetsRules x → first_dear (scaled k (flat (in_ticks x))) ≡ Some part
+    → IsDearDesign (scaled_design k x)
+scaled-dear x k part some met dear =
+    record {
+      breaks = λ meets.
+          let S : Flat → Type 0 = λ f. IsSound f in
+          let none = sound-cheap (scaled k (flat (in_ticks x)))
+          (subst S (scaled-flat x k) (flat-sound (scaled_design k x) (in_ticks (scaled_design k x)) meets)) in
+          let both : None ≡ Some part = sym none ∙ dear in cc;
+      told = λ told first. told-first x k some met (in_ticks (scaled_design k x)) (scaled-ticks x k) told first;
+    }

@@ -25,7 +25,7 @@ use Rattle.law_scaling.proofs.Shared.Blocks.{block-calls, block-counted, block-w
 use Rattle.law_scaling.proofs.Services.{reworked_service, services-same, named-same}
 use Rattle.law_scaling.proofs.Shared.Ranks.{map-map, any-map}
 use Rattle.law_scaling.proofs.Tables.{request-same}
-use Rattle.law_scaling.proofs.Cheap.{costs-cheap}
+use Rattle.law_scaling.proofs.Shared.Cheap.{costs-cheap}
 
 pub all-map : {A : Type 0} (p q : A → Bool) (g : A → A) (xs : List A) → ((x : A) → p (g x) ≡ q x) → list_all p (map g xs) ≡ list_all q xs
 all-map p q g [] same = refl

@@ -16,7 +16,7 @@ use Rattle.analysis.specs.Sections.{Section, section, sections_by, service_secti
 use Rattle.analysis.specs.Ceilings.{ceiling}
 use Rattle.analysis.specs.Blocking.{lower_sections, blocking}
 use Rattle.law_scaling.specs.Working.{reworked_block, reworked_op, reworked_thread, reworked}
-use Rattle.law_scaling.proofs.Blocks.{block-live}
+use Rattle.law_scaling.proofs.Shared.Blocks.{block-live}
 use Rattle.law_scaling.proofs.Services.{reworked_service, services-same, named-same, called-more}
 use Rattle.law_scaling.proofs.Shared.Ranks.{ceiling-same}
 

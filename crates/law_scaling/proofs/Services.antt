@@ -16,7 +16,7 @@ use Rattle.ods_tree.specs.Services.{flat_services, is_service, service_named}
 use Rattle.analysis.specs.Execution.{body_cost_by, service_cost, cost_within, called_cost, block_cost}
 use Rattle.analysis.specs.Tables.{activation_cost}
 use Rattle.law_scaling.specs.Working.{reworked_block, reworked_op, reworked_library, reworked_guarded, reworked_thread, reworked}
-use Rattle.law_scaling.proofs.Blocks.{block-weighs, block-grows}
+use Rattle.law_scaling.proofs.Shared.Blocks.{block-weighs, block-grows}
 
 -- an operation of an object
 abbrev pub reworked_service : (Name → ℕ → ℕ) → Service → Service

@@ -18,7 +18,7 @@ use Rattle.analysis.specs.Tables.{places_by_priority, starter_row, starter_of, u
 use Rattle.analysis.specs.Priorities.{priorities_of}
 use Rattle.law_scaling.specs.Working.{reworked_block, reworked_op, reworked_thread, reworked}
 use Rattle.law_scaling.specs.Rows.{AsksNoMore, AskNoMore}
-use Rattle.law_scaling.proofs.Blocks.{block-calls}
+use Rattle.law_scaling.proofs.Shared.Blocks.{block-calls}
 use Rattle.law_scaling.proofs.Services.{reworked_service, services-same, named-same, activation-more}
 use Rattle.law_scaling.proofs.Shared.Ranks.{priorities-same}
 use Rattle.law_scaling.proofs.Sections.{blocking-more}

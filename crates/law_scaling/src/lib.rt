@@ -10,6 +10,9 @@
 //!
 //! Other crates may cite these proofs of it (`proofs/Shared`):
 //!
+//! - `Blocks`: a block whose `work` is changed calls what it called, and weighs what it weighed with its `work` so changed.
+//! - `Cheap`: a design is sound with other `work` exactly as far as no body or thread is too dear.
+//! - `Designs`: what runs of a design whose `work` is changed, and its objects, links and attributes.
 //! - `Holding`: a design that holds at so many per mille holds at less, and a sound one is nowhere too dear at one per mille.
 //! - `Ranks`: priorities and ceilings don't change with `work`: they are read off deadlines and calls.
 //! - `Sound`: a design stays sound with other `work` as long as no body or thread is too dear.

@@ -11,9 +11,9 @@ use Rattle.law_scaling.specs.Working.{reworked_op, reworked_library, reworked_gu
 use Rattle.law_scaling.specs.Scaling.{scaled_in, ticks_at, work_of}
 use Rattle.law_scaling.specs.Parts.{first_dear}
 use Rattle.law_scaling.specs.Holding.{HoldsIn, HoldsWith}
-use Rattle.law_scaling.proofs.Blocks.{block-same}
+use Rattle.law_scaling.proofs.Shared.Blocks.{block-same}
 use Rattle.law_scaling.proofs.Ticks.{ticks-grow, ticks-least}
-use Rattle.law_scaling.proofs.Cheap.{cheap-less, sound-cheap}
+use Rattle.law_scaling.proofs.Shared.Cheap.{cheap-less, sound-cheap}
 use Rattle.law_scaling.proofs.Tables.{table-more}
 use Rattle.law_scaling.proofs.Solutions.{fits-less}
 

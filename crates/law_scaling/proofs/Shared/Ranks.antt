@@ -10,7 +10,7 @@ use Rattle.analysis.specs.Starts.{calls_object}
 use Rattle.analysis.specs.Priorities.{priorities, priorities_of}
 use Rattle.analysis.specs.Ceilings.{uses_object, greatest_user, calls_from_inside, ceiling_within, ceiling, control_ceiling, Ranks, ranks_for, ranks}
 use Rattle.law_scaling.specs.Working.{reworked_block, reworked_op, reworked_guarded, reworked_thread, reworked}
-use Rattle.law_scaling.proofs.Blocks.{block-calls}
+use Rattle.law_scaling.proofs.Shared.Blocks.{block-calls}
 
 pub map-map : {A B C : Type 0} (g : B → C) (h : A → B) (t : A → C) (xs : List A) → ((x : A) → g (h x) ≡ t x) → map g (map h xs) ≡ map t xs
 map-map g h t [] same = refl

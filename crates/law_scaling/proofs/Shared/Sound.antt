@@ -21,11 +21,11 @@ use Rattle.analysis.specs.Starts.{starters, can_request, starts_by, service_star
 use Rattle.analysis.specs.Sound.{IsSound, IsSpaced, name_of, Calls, CallsObject, is_started_by, is_started, is_spaced}
 use Rattle.law_scaling.specs.Working.{reworked_block, reworked_op, reworked_library, reworked_guarded, reworked_thread, reworked}
 use Rattle.law_scaling.specs.Parts.{first_dear}
-use Rattle.law_scaling.proofs.Blocks.{block-calls, block-counted, block-weighs, block-grows}
+use Rattle.law_scaling.proofs.Shared.Blocks.{block-calls, block-counted, block-weighs, block-grows}
 use Rattle.law_scaling.proofs.Services.{reworked_service, services-same, named-same}
 use Rattle.law_scaling.proofs.Shared.Ranks.{map-map, any-map}
 use Rattle.law_scaling.proofs.Tables.{request-same}
-use Rattle.law_scaling.proofs.Cheap.{costs-cheap}
+use Rattle.law_scaling.proofs.Shared.Cheap.{costs-cheap}
 
 pub all-map : {A : Type 0} (p q : A → Bool) (g : A → A) (xs : List A) → ((x : A) → p (g x) ≡ q x) → list_all p (map g xs) ≡ list_all q xs
 all-map p q g [] same = refl

@@ -1,4 +1,4 @@
-use Rattle.law_scaling.proofs.Cheap.{parts-more}
+use Rattle.law_scaling.proofs.Shared.Cheap.{parts-more}
 use Rattle.law_scaling.proofs.costs_grow.Goals as goal
 
 pub returns : goal.returns

@@ -1,5 +1,5 @@
 use Rattle.law_scaling.specs.Scaling.{scaled_ticks}
-use Rattle.law_scaling.proofs.Designs.{flat-same}
+use Rattle.law_scaling.proofs.Shared.Designs.{flat-same}
 use Rattle.law_scaling.proofs.flat_designs_scale.Goals as goal
 
 pub returns : goal.returns

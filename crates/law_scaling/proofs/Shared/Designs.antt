@@ -27,7 +27,7 @@ use Rattle.ods_tree.specs.declared.design.Kind.TheVariants as kind
 use Rattle.law_scaling.specs.Working.{reworked_statement, reworked_block, reworked_branches, reworked_op, reworked_library, reworked_guarded}
 use Rattle.law_scaling.specs.Working.{reworked_thread, reworked}
 use Rattle.law_scaling.specs.Designs.{freed, reworked_body, reworked_object, reworked_tree, reworked_trees, reworked_design}
-use Rattle.law_scaling.proofs.Services.{find-map}
+pub use Rattle.law_scaling.proofs.Services.{find-map}
 
 -- calls are read as before
 module _ (c : ℕ → ℕ) (m n : OpName → OpName) (same : (x : OpName) → m x ≡ n x) where
@@ -53,7 +53,7 @@ module _ (c : ℕ → ℕ) (m n : OpName → OpName) (same : (x : OpName) → m 
     branches-renamed (When v block others) = ap (λ s. When v s (renamed_branches m (reworked_branches c others))) (block-renamed block)
         ∙ ap (When v (reworked_block c (renamed n block))) (branches-renamed others)
 
-filter-map : {A : Type 0} (p q : A → Bool) (g : A → A) (xs : List A) → ((x : A) → p (g x) ≡ q x) → filter p (map g xs) ≡ map g (filter q xs)
+pub filter-map : {A : Type 0} (p q : A → Bool) (g : A → A) (xs : List A) → ((x : A) → p (g x) ≡ q x) → filter p (map g xs) ≡ map g (filter q xs)
 filter-map p q g [] same = refl
 filter-map {A} p q g (x ∷ xs) same = rw (same x) (by (q x) (filter-map p q g xs same))
   where
@@ -62,7 +62,7 @@ filter-map {A} p q g (x ∷ xs) same = rw (same x) (by (q x) (filter-map p q g x
     by true rest = ap (λ z. g x ∷ z) rest
     by false rest = rest
 
-filter_map-map : {A B : Type 0} (h k : A → Option B) (g : A → A) (t : B → B) (xs : List A) → ((x : A) → h (g x) ≡ option_map t (k x))
+pub filter_map-map : {A B : Type 0} (h k : A → Option B) (g : A → A) (t : B → B) (xs : List A) → ((x : A) → h (g x) ≡ option_map t (k x))
     → filter_map h (map g xs) ≡ map t (filter_map k xs)
 filter_map-map h k g t [] same = refl
 filter_map-map {A} {B} h k g t (x ∷ xs) same =
@@ -84,33 +84,34 @@ filter_map-each {A} {B} h k t (x ∷ xs) same =
     by None rest = rest
     by (Some y) rest = ap (λ z. t y ∷ z) rest
 
+-- keys stay
+pub key-same : (key : AttrKey) (a : Attr) → has_key key (freed a) ≡ has_key key a
+key-same key a = by (has_key ThreadBudget a)
+  where
+    by : (b : Bool) → has_key key (if b then record { key = a.key; value = tick_limit; unit = None } else a) ≡ has_key key a
+    by true = refl
+    by false = refl
+
 -- no attribute but a budget changes
 module _ (key : AttrKey) (other : (key_place key == 4) ≡ false) where
   kept : (a : Attr) → has_key key a ≡ true → freed a ≡ a
   kept a h = let not_budget : has_key ThreadBudget a ≡ false = grind (arith, h, other) in rw not_budget refl
 
-  key-same : (a : Attr) → has_key key (freed a) ≡ has_key key a
-  key-same a = by (has_key ThreadBudget a)
-    where
-      by : (b : Bool) → has_key key (if b then record { key = a.key; value = tick_limit; unit = None } else a) ≡ has_key key a
-      by true = refl
-      by false = refl
-
   found-same : (xs : List Attr) → find (has_key key) (map freed xs) ≡ find (has_key key) xs
   found-same [] = refl
-  found-same (a ∷ xs) = rw (key-same a) (by (has_key key a) refl (found-same xs))
+  found-same (a ∷ xs) = rw (key-same key a) (by (has_key key a) refl (found-same xs))
     where
       by : (b : Bool) → has_key key a ≡ b → find (has_key key) (map freed xs) ≡ find (has_key key) xs
           → cond b (Some (freed a)) (find (has_key key) (map freed xs)) ≡ cond b (Some a) (find (has_key key) xs)
       by true h rest = ap (λ y. Some y) (kept a h)
       by false h rest = rest
 
-  attribute-same : (w : Name → ℕ → ℕ) (o : Object) → attribute key (reworked_object w o) ≡ attribute key o
+  pub attribute-same : (w : Name → ℕ → ℕ) (o : Object) → attribute key (reworked_object w o) ≡ attribute key o
   attribute-same w o = ap (option_map (λ a. a.value)) (found-same o.attrs)
 
 module _ (w : Name → ℕ → ℕ) where
   -- links lead where they led
-  own-same : (t : Tree) → own_of (reworked_tree w t) ≡ reworked_object w (own_of t)
+  pub own-same : (t : Tree) → own_of (reworked_tree w t) ≡ reworked_object w (own_of t)
   own-same (Node own children) = refl
 
   first-of : (a b : Option Tree) → first_of (option_map (reworked_tree w) a) (option_map (reworked_tree w) b) ≡ option_map (reworked_tree w) (first_of a b)
@@ -155,7 +156,7 @@ module _ (w : Name → ℕ → ℕ) where
     abbrev new : Design
     new = reworked_design w x
 
-    resolve-same : (n : OpName) → resolve new n ≡ resolve x n
+    pub resolve-same : (n : OpName) → resolve new n ≡ resolve x n
     resolve-same n =
         ap (λ o. unwrap_or (option_and_then (λ t. terminal_op t n.op) o) n) (tree-named n.object x.root) ∙ by (tree_named n.object x.root)
       where
@@ -164,11 +165,11 @@ module _ (w : Name → ℕ → ℕ) where
         by None = refl
         by (Some t) = ap (λ z. unwrap_or z n) (op-terminal t n.op)
 
-    resolved-same : (c : ℕ → ℕ) (b : Statements) → resolved new (reworked_block c b) ≡ reworked_block c (resolved x b)
+    pub resolved-same : (c : ℕ → ℕ) (b : Statements) → resolved new (reworked_block c b) ≡ reworked_block c (resolved x b)
     resolved-same c b = block-renamed c (resolve new) (resolve x) resolve-same b
 
     -- operations and threads
-    operation-same : (c : ℕ → ℕ) (sig : Signature) (b : Body) → operation_by new sig (reworked_body c b) ≡ reworked_op c (operation_by x sig b)
+    pub operation-same : (c : ℕ → ℕ) (sig : Signature) (b : Body) → operation_by new sig (reworked_body c b) ≡ reworked_op c (operation_by x sig b)
     operation-same c sig b =
         ap (λ (s : Statements). let o : Operation = record { sig = sig; locals = b.locals; block = s } in o) (resolved-same c b.block)
 
@@ -229,7 +230,7 @@ module _ (w : Name → ℕ → ℕ) where
         by (Some timing) (Some b) = ap (λ y. Some y) (at-same o timing b)
 
   -- the objects of the tree
-  abbrev standing : Standing → Standing
+  abbrev pub standing : Standing → Standing
   standing s = record {
     own = reworked_object w s.own;
     parent = option_map (reworked_object w) s.parent;
@@ -237,12 +238,12 @@ module _ (w : Name → ℕ → ℕ) where
     children = map (reworked_object w) s.children;
   }
 
-  roots-same : (ts : Trees) → roots (reworked_trees w ts) ≡ map (reworked_object w) (roots ts)
+  pub roots-same : (ts : Trees) → roots (reworked_trees w ts) ≡ map (reworked_object w) (roots ts)
   roots-same Empty = refl
   roots-same (With first rest) = ap (λ o. o ∷ roots (reworked_trees w rest)) (own-same first) ∙ ap (λ z. reworked_object w (own_of first) ∷ z) (roots-same rest)
 
   mutual
-    standings-same : (p : Option Object) (os : List Object) (t : Tree)
+    pub standings-same : (p : Option Object) (os : List Object) (t : Tree)
         → standings (option_map (reworked_object w) p) (map (reworked_object w) os) (reworked_tree w t) ≡ map standing (standings p os t)
     standings-same p os (Node own children) =
         let made : List Object → Standing = λ cs. record {
@@ -262,12 +263,12 @@ module _ (w : Name → ℕ → ℕ) where
         ∙ ap (λ z. map standing (standings p os first) ++ z) (inner-same p os rest)
         ∙ sym (map-append standing (standings p os first) (inner_standings p os rest))
 
-  empty-same : (os : List Object) → is_empty (map (reworked_object w) os) ≡ is_empty os
+  pub empty-same : (os : List Object) → is_empty (map (reworked_object w) os) ≡ is_empty os
   empty-same [] = refl
   empty-same (o ∷ os) = refl
 
   module _ (x : Design) where
-    terminals-same : terminals (reworked_design w x) ≡ map standing (terminals x)
+    pub terminals-same : terminals (reworked_design w x) ≡ map standing (terminals x)
     terminals-same =
         ap (λ os. filter is_terminal (standings None os (reworked_tree w x.root))) (ap (λ o. o ∷ []) (own-same x.root))
         ∙ ap (filter is_terminal) (standings-same None (own_of x.root ∷ []) x.root)

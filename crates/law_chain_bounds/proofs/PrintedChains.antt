@@ -1,5 +1,5 @@
--- The chains of a design's table are chains of its program's tasks: a row that another starts is that of a sporadic thread.
-use Rattle.std.specs.Prelude.{◌≡◌, ◌⊎◌, ℕ, zero, suc, ◌+◌, ◌≤◌, ◌<◌, true, List, [], ◌∷◌, ◌++◌, length, map, filter_map, reverse, zip}
+-- The chains of a design's table are chains of its program's tasks, by any ranking: a row that another starts is that of a sporadic thread.
+use Rattle.std.specs.Prelude.{◌≡◌, ◌⊎◌, ℕ, zero, suc, ◌+◌, ◌-◌, ◌≤◌, ◌<◌, true, List, [], ◌∷◌, ◌++◌, length, map, filter_map, reverse, zip}
 use Rattle.std.specs.Prelude.{fold, slice_get, Option, Some, None, IfSome, option_map, refl}
 use Rattle.std.specs.List.{cons_option}
 use Rattle.std.proofs.Common.{sym, ◌∙◌, ap, subst, arith, inl, inr}
@@ -29,28 +29,32 @@ use Rattle.response_terms.specs.Paths.{chain_up, up_from, chain_response, respon
 use Rattle.analysis.specs.Priorities.{priorities_of}
 use Rattle.analysis.specs.Sound.{IsSound}
 use Rattle.analysis.specs.Tables as analysis
-use Rattle.analysis.specs.Tables.{downwards, table}
+use Rattle.analysis.specs.Tables.{downwards, table_for}
 use Rattle.guarantee.specs.Bounded.{Response}
 use Rattle.guarantee.specs.Events.{Event, named}
 use Rattle.guarantee.specs.MachineLaw.{IsReadable}
-use Rattle.guarantee.specs.Programs.{program, responses}
 use Rattle.guarantee.specs.ResponseLaw.{Ranked, AreTabled, times_of}
 use Rattle.guarantee.specs.ResponseLaw as law
-use Rattle.law_lists.proofs.Shared.Lists.{each-append, each-to, zip-second}
-use Rattle.law_lists.proofs.Shared.Places.{map-at, mapped-at, same-item, zip-at}
+use Rattle.guarantee.specs.Software.{Task, software, task_of}
+use Rattle.law_lists.proofs.Shared.Lists.{each-append, each-by, each-map, each-to, zip-second}
+use Rattle.law_lists.proofs.Shared.Places.{all-at, map-at, mapped-at, same-item, zip-at}
+use Rattle.law_chains.specs.AtOnce.{IsServedAtOnce}
 use Rattle.law_chains.specs.Chains.{ChainResponds, total}
+use Rattle.law_designs.specs.Rankings.{IsRanking, program_by, responses_by}
 use Rattle.law_designs.proofs.Shared.PriorityLists.{entries, ranked_entry, row_entry, in_order, rows-are}
-use Rattle.law_designs.proofs.Shared.ReadablePrograms.{program-readable}
+use Rattle.law_designs.proofs.Shared.PriorityPlaces.{deadline-ranking}
+use Rattle.law_designs.proofs.Shared.RankedPrograms.{flat-tabled, responses-are, task-stands}
+use Rattle.law_designs.proofs.Shared.ReadablePrograms.{ranked-readable}
 use Rattle.law_designs.proofs.Shared.SoundDesigns.{flat-sound, flat-spaced}
 use Rattle.law_designs.proofs.Shared.Lists.{has-at}
-use Rattle.law_designs.proofs.Shared.TabledPrograms.{flat-tabled, responses-are}
-use Rattle.law_designs.proofs.Shared.TableRanges.{sound-table}
+use Rattle.law_designs.proofs.Shared.TableRanges.{ranked-table}
 use Rattle.law_responses.specs.Using.{UsesAtMost}
 use Rattle.law_responses.proofs.Shared.CostLaw.{tasks-keep-to-costs}
 use Rattle.law_runs.specs.Chains.{is_sporadic, HasSporadic}
-use Rattle.law_runs.proofs.Shared.Chained.{tabled-chains}
-use Rattle.law_chain_bounds.specs.Printed.{chain_of, OfChain, lowest_row, lowest_response, PrintedChainResponds, PrintedChainsRespond}
+use Rattle.law_runs.proofs.Shared.Chained.{tabled-chains, tabled-served-at-once}
+use Rattle.law_chain_bounds.specs.Printed.{chain_of, OfChain, lowest_row, lowest_response, RankedChainResponds, PrintedChainsRespond}
 use Rattle.law_chain_bounds.specs.Printed.{PrintedChainsKeepToLevels, LevelsAreWithinSums, ThreadsKeepToCosts}
+use Rattle.law_chain_bounds.specs.Served.{RankedDesignsServe}
 use Rattle.law_chain_bounds.proofs.TabledChains.{tabled-chains-keep-to-levels}
 
 -- a row that another starts is that of a sporadic task
@@ -63,18 +67,18 @@ sporadic-starts f ps name (Cyclic period offset) starter e = absurd (none-some s
 sporadic-starts f ps name (Sporadic op separation jitter) starter e = refl
 
 -- the rows of a design's table that others start are those of sporadic threads
-pub started-rows-are-sporadic : (f : Flat) (first at : ℕ) (t : Ranked) (row : ThreadRow)
-    → slice_get (in_order first f (priorities_of f)) at ≡ Some t → slice_get (table f).rows at ≡ Some row → StartsSporadic t row
-started-rows-are-sporadic f first at t row here line starter told =
-    let entry = mapped-at (ranked_entry first) (entries f (priorities_of f) (downwards (length (priorities_of f)))) at t here in
-    let also : slice_get (map (row_entry f (priorities_of f)) (entries f (priorities_of f) (downwards (length (priorities_of f))))) at ≡ Some row
-    = ap (λ rs. slice_get rs at) (sym (rows-are f (priorities_of f))) ∙ line in
-    let own = mapped-at (row_entry f (priorities_of f)) (entries f (priorities_of f) (downwards (length (priorities_of f)))) at row also in
+pub started-rows-are-sporadic : (f : Flat) (ps : List ℕ) (first at : ℕ) (t : Ranked) (row : ThreadRow)
+    → slice_get (in_order first f ps) at ≡ Some t → slice_get (table_for f ps).rows at ≡ Some row → StartsSporadic t row
+started-rows-are-sporadic f ps first at t row here line starter told =
+    let entry = mapped-at (ranked_entry first) (entries f ps (downwards (length ps))) at t here in
+    let also : slice_get (map (row_entry f ps) (entries f ps (downwards (length ps)))) at ≡ Some row
+    = ap (λ rs. slice_get rs at) (sym (rows-are f ps)) ∙ line in
+    let own = mapped-at (row_entry f ps) (entries f ps (downwards (length ps))) at row also in
     let same : entry.0 ≡ own.0
-    = same-item (slice_get (entries f (priorities_of f) (downwards (length (priorities_of f)))) at) entry.0 own.0 entry.1 own.1 in
-    let starts : analysis.starter_of f (priorities_of f) own.0.0.name own.0.0.timing ≡ Some starter = ap (λ z. z.starter) own.2 ∙ told in
+    = same-item (slice_get (entries f ps (downwards (length ps))) at) entry.0 own.0 entry.1 own.1 in
+    let starts : analysis.starter_of f ps own.0.0.name own.0.0.timing ≡ Some starter = ap (λ z. z.starter) own.2 ∙ told in
     ap (λ z. is_sporadic z.task.timing) (sym entry.2) ∙ ap (λ z. is_sporadic z.0.timing) same
-    ∙ sporadic-starts f (priorities_of f) own.0.0.name own.0.0.timing starter starts
+    ∙ sporadic-starts f ps own.0.0.name own.0.0.timing starter starts
 
 -- the sum of response times, from a number on
 sum-from : (v : List Bound) (a : ℕ) (places : List ℕ)
@@ -234,7 +238,8 @@ row-at P [] k x all e = absurd (none-some x e)
 row-at P (a ∷ xs) zero x all e = subst P (same_Some a x e) all.0
 row-at P (a ∷ xs) (suc k) x all e = row-at P xs k x all.1 e
 
-module _ (x : Design) (proper : IsProperDesign (within_limits is_design_name) x) (meets : MeetsRules x) where
+module _ (x : Design) (ps : List ℕ) (proper : IsProperDesign (within_limits is_design_name) x) (meets : MeetsRules x)
+    (ranking : IsRanking (flat (in_ticks x)) ps) where
   abbrev y : Design
   y = in_ticks x
 
@@ -242,71 +247,87 @@ module _ (x : Design) (proper : IsProperDesign (within_limits is_design_name) x)
   f = flat (in_ticks x)
 
   abbrev tasks : List Ranked
-  tasks = in_order (first_priority (in_ticks x)) (flat (in_ticks x)) (priorities_of (flat (in_ticks x)))
+  tasks = in_order (first_priority (in_ticks x)) (flat (in_ticks x)) ps
 
   sound : IsSound (flat (in_ticks x))
   sound = flat-sound x (in_ticks x) meets
 
-  is-table : IsTable (table (flat (in_ticks x))).rows
-  is-table = sound-table (flat (in_ticks x)) sound
+  is-table : IsTable (table_for (flat (in_ticks x)) ps).rows
+  is-table = ranked-table (flat (in_ticks x)) sound ps ranking
 
-  tabled : AreTabled (program (in_ticks x)) (in_order (first_priority (in_ticks x)) (flat (in_ticks x)) (priorities_of (flat (in_ticks x))))
-      (table (flat (in_ticks x))).rows
-  tabled = flat-tabled (flat (in_ticks x)) (first_priority (in_ticks x)) sound.started (flat-spaced x (in_ticks x) meets) sound.formed.names is-table
+  tabled : AreTabled (program_by (in_ticks x) ps) (in_order (first_priority (in_ticks x)) (flat (in_ticks x)) ps)
+      (table_for (flat (in_ticks x)) ps).rows
+  tabled = flat-tabled (flat (in_ticks x)) (first_priority (in_ticks x)) ps ranking sound.started (flat-spaced x (in_ticks x) meets)
+      sound.formed.names is-table
 
-  readable : IsReadable (program (in_ticks x))
-  readable = program-readable x proper meets
+  readable : IsReadable (program_by (in_ticks x) ps)
+  readable = ranked-readable x ps proper meets ranking
 
-  module _ (v : List Bound) (fits : Fits (table (flat (in_ticks x))).rows v) where
-    has : Has (in_order (first_priority (in_ticks x)) (flat (in_ticks x)) (priorities_of (flat (in_ticks x)))) (table (flat (in_ticks x))).rows v
+  module _ (v : List Bound) (fits : Fits (table_for (flat (in_ticks x)) ps).rows v) where
+    has : Has (in_order (first_priority (in_ticks x)) (flat (in_ticks x)) ps) (table_for (flat (in_ticks x)) ps).rows v
     has = record {
       count = fits.0.0;
       both = λ k row line.
-          let u = zip-second (λ t z. law.IsStarted (program (in_ticks x)) tasks z t.task.name t.task.timing) tasks (table f).rows k row tabled.started line
-          in (u.0, u.1);
+          let u = zip-second (λ t z. law.IsStarted (program_by (in_ticks x) ps) tasks z t.task.name t.task.timing) tasks (table_for f ps).rows k row
+          tabled.started line in (u.0, u.1);
       starters = λ k s row line starts.
-          let own : IsRow (length (table f).rows) row = row-at (IsRow (length (table f).rows)) (table f).rows k row is-table.each line in
-          subst (IsStarter (length (table f).rows)) starts own.starter;
-      sporadic = λ k t row here line. started-rows-are-sporadic f (first_priority (in_ticks x)) k t row here line;
+          let own : IsRow (length (table_for f ps).rows) row = row-at (IsRow (length (table_for f ps).rows)) (table_for f ps).rows k row is-table.each line in
+          subst (IsStarter (length (table_for f ps).rows)) starts own.starter;
+      sporadic = λ k t row here line. started-rows-are-sporadic f ps (first_priority (in_ticks x)) k t row here line;
     }
 
-    module _ (limit : ℕ) (r : Arrivals) (told : List machine.Event) (accepted : IsAccepted limit (program (in_ticks x)) r)
-        (means : Meaning (program (in_ticks x)) r told) (at : ℕ) (row : ThreadRow) (line : slice_get (table (flat (in_ticks x))).rows at ≡ Some row) where
-      chain : IsChain (in_order (first_priority (in_ticks x)) (flat (in_ticks x)) (priorities_of (flat (in_ticks x)))) (table (flat (in_ticks x))).rows v
-          has (chain_up (table (flat (in_ticks x))).rows at)
-      chain = is-chain tasks (table f).rows v has (length (table f).rows) at row line
+    module _ (limit : ℕ) (r : Arrivals) (told : List machine.Event) (accepted : IsAccepted limit (program_by (in_ticks x) ps) r)
+        (means : Meaning (program_by (in_ticks x) ps) r told) where
+      -- the requests of each thread of the table are served at once, and so those of each of the design
+      requests : Each (λ t. IsServedAtOnce (named (program_by (in_ticks x) ps) told) t.name t.timing) (software (in_ticks x)).tasks
+      requests =
+          each-map task_of P f.threads (each-by (λ t. P (task_of t)) f.threads (λ k t at.
+          let q = has-at ps k (let inside : k < length f.threads = slice_get_within f.threads k t at in omega (arith, inside, ranking.count)) in
+          all-at (λ u. P u.task) tasks (length ps - q.0) (ranked_entry (first_priority y) (t, q.0))
+          (tabled-served-at-once limit (program_by y ps) tasks (table_for f ps).rows v r told readable tabled fits accepted means)
+          (task-stands f (first_priority y) ps ranking k q.0 t at q.1)))
+        where
+          P : Task → Type 0
+          P t = IsServedAtOnce (named (program_by (in_ticks x) ps) told) t.name t.timing
 
-      -- the chain is that of the program's tasks
-      of-tasks : (P : Name → List Name → Type 0) → P chain.first.thread (map (λ q. q.thread) chain.more)
-          → OfChain P (chain_of (responses (flat (in_ticks x)) v) (chain_up (table (flat (in_ticks x))).rows at))
-      of-tasks P h =
-          subst (λ qs. OfChain P (chain_of qs (chain_up (table f).rows at))) (sym (responses-are f (first_priority (in_ticks x)) v))
-          (subst (OfChain P) (sym chain.is) h)
+      module _ (at : ℕ) (row : ThreadRow) (line : slice_get (table_for (flat (in_ticks x)) ps).rows at ≡ Some row) where
+        chain : IsChain (in_order (first_priority (in_ticks x)) (flat (in_ticks x)) ps) (table_for (flat (in_ticks x)) ps).rows v
+            has (chain_up (table_for (flat (in_ticks x)) ps).rows at)
+        chain = is-chain tasks (table_for f ps).rows v has (length (table_for f ps).rows) at row line
 
-      sums : PrintedChainResponds (flat (in_ticks x)) v r.until (named (program (in_ticks x)) told)
-          (chain_response v (chain_up (table (flat (in_ticks x))).rows at)) at
-      sums =
-          of-tasks (ChainResponds r.until (named (program y) told) (chain_response v (chain_up (table f).rows at)))
-          (subst (λ n. ChainResponds r.until (named (program y) told) n chain.first.thread (map (λ q. q.thread) chain.more)) chain.sum
-          (tabled-chains limit (program y) tasks (table f).rows v r told chain.first chain.more readable tabled fits accepted means
-          (each-to (λ q. (k : ℕ) × (k ≤ lowest_row (chain_up (table f).rows at)) × (slice_get (times_of tasks v) k ≡ Some q))
-          (λ q. (k : ℕ) × (slice_get (times_of tasks v) k ≡ Some q)) (chain.first ∷ chain.more) (λ q h. (h.0, h.2)) chain.within) chain.sporadic))
+        -- the chain is that of the program's tasks
+        of-tasks : (P : Name → List Name → Type 0) → P chain.first.thread (map (λ q. q.thread) chain.more)
+            → OfChain P (chain_of (responses_by (flat (in_ticks x)) ps v) (chain_up (table_for (flat (in_ticks x)) ps).rows at))
+        of-tasks P h =
+            subst (λ qs. OfChain P (chain_of qs (chain_up (table_for f ps).rows at))) (sym (responses-are f (first_priority (in_ticks x)) ps ranking v))
+            (subst (OfChain P) (sym chain.is) h)
 
-      levels : PrintedChainResponds (flat (in_ticks x)) v r.until (named (program (in_ticks x)) told)
-          (lowest_response v (chain_up (table (flat (in_ticks x))).rows at)) at
-      levels =
-          of-tasks (ChainResponds r.until (named (program y) told) (lowest_response v (chain_up (table f).rows at)))
-          (subst (λ n. ChainResponds r.until (named (program y) told) n chain.first.thread (map (λ q. q.thread) chain.more)) chain.lowest.2
-          (tabled-chains-keep-to-levels limit (program y) tasks (table f).rows v r told (lowest_row (chain_up (table f).rows at)) chain.lowest.0
-          chain.first chain.more readable tabled fits accepted means chain.lowest.1 chain.within chain.sporadic))
+        sums : RankedChainResponds (flat (in_ticks x)) ps v r.until (named (program_by (in_ticks x) ps) told)
+            (chain_response v (chain_up (table_for (flat (in_ticks x)) ps).rows at)) at
+        sums =
+            of-tasks (ChainResponds r.until (named (program_by y ps) told) (chain_response v (chain_up (table_for f ps).rows at)))
+            (subst (λ n. ChainResponds r.until (named (program_by y ps) told) n chain.first.thread (map (λ q. q.thread) chain.more)) chain.sum
+            (tabled-chains limit (program_by y ps) tasks (table_for f ps).rows v r told chain.first chain.more readable tabled fits accepted means
+            (each-to (λ q. (k : ℕ) × (k ≤ lowest_row (chain_up (table_for f ps).rows at)) × (slice_get (times_of tasks v) k ≡ Some q))
+            (λ q. (k : ℕ) × (slice_get (times_of tasks v) k ≡ Some q)) (chain.first ∷ chain.more) (λ q h. (h.0, h.2)) chain.within) chain.sporadic))
+
+        levels : RankedChainResponds (flat (in_ticks x)) ps v r.until (named (program_by (in_ticks x) ps) told)
+            (lowest_response v (chain_up (table_for (flat (in_ticks x)) ps).rows at)) at
+        levels =
+            of-tasks (ChainResponds r.until (named (program_by y ps) told) (lowest_response v (chain_up (table_for f ps).rows at)))
+            (subst (λ n. ChainResponds r.until (named (program_by y ps) told) n chain.first.thread (map (λ q. q.thread) chain.more)) chain.lowest.2
+            (tabled-chains-keep-to-levels limit (program_by y ps) tasks (table_for f ps).rows v r told (lowest_row (chain_up (table_for f ps).rows at))
+            chain.lowest.0 chain.first chain.more readable tabled fits accepted means chain.lowest.1 chain.within chain.sporadic))
 
 pub printed-chains-respond : (limit : ℕ) → PrintedChainsRespond limit
-printed-chains-respond limit x v r told at row proper meets fits accepted means line
-    = sums x proper meets v fits limit r told accepted means at row line
+printed-chains-respond limit x v r told at row proper meets fits accepted means line =
+    let f = flat (in_ticks x) in
+    sums x (priorities_of f) proper meets (deadline-ranking f) v fits limit r told accepted means at row line
 
 pub printed-chains-keep-to-levels : (limit : ℕ) → PrintedChainsKeepToLevels limit
-printed-chains-keep-to-levels limit x v r told at row proper meets fits accepted means line
-    = levels x proper meets v fits limit r told accepted means at row line
+printed-chains-keep-to-levels limit x v r told at row proper meets fits accepted means line =
+    let f = flat (in_ticks x) in
+    levels x (priorities_of f) proper meets (deadline-ranking f) v fits limit r told accepted means at row line
 
 -- costs as response times, for which a table's list of response times says whose they are
 abbrev as_bound : ThreadRow → Bound
@@ -347,18 +368,36 @@ each-row told threads (at ∷ places) (row ∷ rows) h = by (slice_get threads a
     by None k later = (tt, later k)
     by (Some t) k later = (k.0, later k.1)
 
-pub threads-keep-to-costs : (limit : ℕ) → ThreadsKeepToCosts limit
-threads-keep-to-costs limit x r told proper meets accepted means =
-    each-row (named (program (in_ticks x)) told) (flat (in_ticks x)).threads (table (flat (in_ticks x))).places (table (flat (in_ticks x))).rows
-    (subst (Each P) (sym (responses-are (flat (in_ticks x)) (first_priority (in_ticks x)) (map as_bound (table (flat (in_ticks x))).rows)))
-    (each-time P ts (map as_bound (table (flat (in_ticks x))).rows) (λ k u b at gets.
-    let row = mapped-at as_bound (table (flat (in_ticks x))).rows k b gets in
-    subst (λ c. UsesAtMost c.response u.task.name (named (program (in_ticks x)) told)) row.2
-    (tasks-keep-to-costs limit (program (in_ticks x)) ts (table (flat (in_ticks x))).rows r told k u row.0 (readable x proper meets)
-    (tabled x proper meets) accepted means at row.1))))
+pub ranked-costs : (limit : ℕ) (x : Design) (ps : List ℕ) (r : Arrivals) (told : List machine.Event)
+    → IsProperDesign (within_limits is_design_name) x → MeetsRules x → IsRanking (flat (in_ticks x)) ps
+    → IsAccepted limit (program_by (in_ticks x) ps) r → Meaning (program_by (in_ticks x) ps) r told
+    → Each (λ c. IfSome (slice_get (flat (in_ticks x)).threads c.0) (λ t. UsesAtMost c.1.cost t.name (named (program_by (in_ticks x) ps) told)))
+    (zip (table_for (flat (in_ticks x)) ps).places (table_for (flat (in_ticks x)) ps).rows)
+ranked-costs limit x ps r told proper meets ranking accepted means =
+    each-row (named (program_by (in_ticks x) ps) told) (flat (in_ticks x)).threads (table_for (flat (in_ticks x)) ps).places rows
+    (subst (Each P) (sym (responses-are (flat (in_ticks x)) (first_priority (in_ticks x)) ps ranking (map as_bound rows)))
+    (each-time P ts (map as_bound rows) (λ k u b at gets.
+    let row = mapped-at as_bound rows k b gets in
+    subst (λ c. UsesAtMost c.response u.task.name (named (program_by (in_ticks x) ps) told)) row.2
+    (tasks-keep-to-costs limit (program_by (in_ticks x) ps) ts rows r told k u row.0 (readable x ps proper meets ranking)
+    (tabled x ps proper meets ranking) accepted means at row.1))))
   where
     P : Response → Type 0
-    P q = UsesAtMost q.ticks q.thread (named (program (in_ticks x)) told)
+    P q = UsesAtMost q.ticks q.thread (named (program_by (in_ticks x) ps) told)
+
+    rows : List ThreadRow
+    rows = (table_for (flat (in_ticks x)) ps).rows
 
     ts : List Ranked
-    ts = in_order (first_priority (in_ticks x)) (flat (in_ticks x)) (priorities_of (flat (in_ticks x)))
+    ts = in_order (first_priority (in_ticks x)) (flat (in_ticks x)) ps
+
+pub threads-keep-to-costs : (limit : ℕ) → ThreadsKeepToCosts limit
+threads-keep-to-costs limit x r told proper meets accepted means =
+    let f = flat (in_ticks x) in ranked-costs limit x (priorities_of f) r told proper meets (deadline-ranking f) accepted means
+
+pub ranked-designs-serve : (limit : ℕ) → RankedDesignsServe limit
+ranked-designs-serve limit x ps v r told proper meets ranking fits accepted means = record {
+  requests = requests x ps proper meets ranking v fits limit r told accepted means;
+  chains = λ at row line. levels x ps proper meets ranking v fits limit r told accepted means at row line;
+  costs = ranked-costs limit x ps r told proper meets ranking accepted means;
+}

@@ -19,11 +19,13 @@ use Rattle.rt_response.specs.declared.rows.ThreadRow.{ThreadRow}
 use Rattle.rt_response.specs.declared.rows.Bound.{Bound}
 use Rattle.rt_response.specs.Response.{Fits}
 use Rattle.response_terms.specs.Paths.{chain_up, chain_response, response_in}
-use Rattle.analysis.specs.Tables.{table}
+use Rattle.analysis.specs.Priorities.{priorities_of}
+use Rattle.analysis.specs.Tables.{table, table_for}
 use Rattle.guarantee.specs.Bounded.{Response}
 use Rattle.guarantee.specs.Events.{Event, named}
-use Rattle.guarantee.specs.Programs.{program, responses}
+use Rattle.guarantee.specs.Programs.{program}
 use Rattle.law_chains.specs.Chains.{ChainResponds}
+use Rattle.law_designs.specs.Rankings.{responses_by}
 use Rattle.law_responses.specs.Using.{UsesAtMost}
 
 -- the response times of the rows of a chain, the first thread of the chain first; the rows come from the last one up
@@ -48,10 +50,14 @@ lowest_response v rows = response_in (slice_get v (lowest_row rows))
 abbrev pub LevelsAreWithinSums : Type 0
 LevelsAreWithinSums = (v : List Bound) (at : ℕ) (more : List ℕ) → lowest_response v (at ∷ more) ≤ chain_response v (at ∷ more)
 
--- the chain of a row of a design takes at most so many ticks, in a trace
+-- the chain of a row of a design takes at most so many ticks, in a trace, by these priorities of its threads
+abbrev pub RankedChainResponds : Flat → List ℕ → List Bound → ℕ → List Event → ℕ → ℕ → Type 0
+RankedChainResponds f ps v until told ticks at =
+    OfChain (ChainResponds until told ticks) (chain_of (responses_by f ps v) (chain_up (table_for f ps).rows at))
+
+-- and by deadline-monotonic priorities
 abbrev pub PrintedChainResponds : Flat → List Bound → ℕ → List Event → ℕ → ℕ → Type 0
-PrintedChainResponds f v until told ticks at =
-    OfChain (ChainResponds until told ticks) (chain_of (responses f v) (chain_up (table f).rows at))
+PrintedChainResponds f = RankedChainResponds f (priorities_of f)
 
 -- in every run of the program of a design with bounds each printed chain responds within the response times along it, together
 abbrev pub PrintedChainsRespond : ℕ → Type 0

@@ -19,7 +19,7 @@ ghost use Rattle.std.specs.Prelude.{ℕ};
 ghost use Rattle.law_chain_bounds.specs.Levels.{ChainsOfLevelsRespond, TabledChainsKeepToLevels};
 ghost use Rattle.law_chain_bounds.specs.Printed.{LevelsAreWithinSums, PrintedChainsKeepToLevels, PrintedChainsRespond, ThreadsKeepToCosts};
 ghost use Rattle.law_chain_bounds.specs.Requests.{RunsRequestBeforeEnds};
-ghost use Rattle.law_chain_bounds.specs.Served.{DesignsServe};
+ghost use Rattle.law_chain_bounds.specs.Served.{DesignsServe, RankedDesignsServe};
 
 /// In every run of a program that meets the rules, a request comes a tick or more before each later end of an activation.
 pub fn runs_request_before_ends()
@@ -76,4 +76,11 @@ pub fn threads_keep_to_costs()
 /// The arrivals are accepted. `limit` is the farthest horizon allowed, in ticks.
 pub fn designs_serve()
     ensures { (limit : ℕ) → DesignsServe limit }
+{}
+
+/// The same of the program by any ranking of the threads, where the design has bounds by it.
+///
+/// The arrivals are accepted. `limit` is the farthest horizon allowed, in ticks.
+pub fn ranked_designs_serve()
+    ensures { (limit : ℕ) → RankedDesignsServe limit }
 {}

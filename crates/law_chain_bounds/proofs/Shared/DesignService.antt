@@ -1,12 +1,16 @@
--- In every run of the program of a design that meets the rules and has bounds, requests are served at once, and chains and costs are within bounds.
+-- In every run of the program of a design by a ranking requests are served at once, and chains and costs are within bounds, where the design meets
+-- the rules and has bounds by it.
 use Rattle.std.specs.Prelude.{ℕ}
-use Rattle.law_runs.proofs.Shared.Chained.{designs-serve-at-once}
-use Rattle.law_chain_bounds.specs.Served.{DesignsServe}
-use Rattle.law_chain_bounds.proofs.PrintedChains.{printed-chains-keep-to-levels, threads-keep-to-costs}
+use Rattle.ods_tree.specs.Flattening.{flat}
+use Rattle.ods_tree.specs.Ticks.{in_ticks}
+use Rattle.analysis.specs.Priorities.{priorities_of}
+use Rattle.law_designs.proofs.Shared.PriorityPlaces.{deadline-ranking}
+use Rattle.law_chain_bounds.specs.Served.{RankedDesignsServe, DesignsServe}
+use Rattle.law_chain_bounds.proofs.PrintedChains as printed
+
+pub ranked-designs-serve : (limit : ℕ) → RankedDesignsServe limit
+ranked-designs-serve = printed.ranked-designs-serve
 
 pub designs-serve : (limit : ℕ) → DesignsServe limit
-designs-serve limit x v r told proper meets fits accepted means = record {
-  requests = designs-serve-at-once limit x v r told proper meets fits accepted means;
-  chains = λ at row line. printed-chains-keep-to-levels limit x v r told at row proper meets fits accepted means line;
-  costs = threads-keep-to-costs limit x r told proper meets accepted means;
-}
+designs-serve limit x v r told proper meets =
+    let f = flat (in_ticks x) in ranked-designs-serve limit x (priorities_of f) v r told proper meets (deadline-ranking f)

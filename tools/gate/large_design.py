@@ -1,6 +1,6 @@
 #!/usr/bin/env python3
-"""large_design.py FOLDER: writes files there. large.design is a design of 1,048,576 bytes, 500 objects and 30 threads, the most that one may have, and
-of 14,000 operations: 400 of one passive object, 400 of one protected object, and 64 of passive objects that call each other in a chain. Under
+"""large_design.py FOLDER: writes files there. large.design is a design of 1,048,576 bytes, 500 objects and 30 threads, the most that one may have,
+and of 14,000 operations: 400 of one passive object, 400 of one protected object, and 64 of passive objects that call each other in a chain. Under
 large.arrivals its trace has over 100,000 bytes. units.ada is a program of 5,000 units, which are too many."""
 import pathlib
 import sys
@@ -48,10 +48,11 @@ def large() -> str:
 def units(program: str) -> str:
     """Returns a program with so many passive units more, ahead of its own."""
     heads = "".join(f"   package u{k} is\n      procedure f;\n   end u{k};\n" for k in range(UNITS))
-    bodies = "".join(f"   package body u{k} is\n      procedure f is\n      begin\n         null;\n      end f;\n   end u{k};\n" for k in range(UNITS))
+    body = "      procedure f is\n      begin\n         null;\n      end f;\n"
+    bodies = "".join(f"   package body u{k} is\n{body}   end u{k};\n" for k in range(UNITS))
     before, head, rest = program.partition("package d is\n")
-    between, body, behind = rest.partition("package body d is\n")
-    return before + head + heads + between + body + bodies + behind
+    between, own, behind = rest.partition("package body d is\n")
+    return before + head + heads + between + own + bodies + behind
 
 
 folder = sys.argv[1]

@@ -5,7 +5,7 @@ An answer of `NoMemory` is a way out that no clause limits, so a limit that is t
 allocation by `?` and `From<AllocError>`. This script lists every other place of crates/*/src where code makes one: the places in ALLOWED, each with
 its reason, and any new one. Exit status 1 where a place is new or an allowed one is not there.
 
-A place is none where code hands an answer on: a match arm whose pattern or guard names `NoMemory`, or `OutOfMemory` as the kit's files tell it, a
+A place is none where code hands an answer on: a match arm whose pattern or guard names `NoMemory`, or `OutOfMemory`, which the kit's files answer, a
 branch for which `is_memory()` holds, and the bodies of `impl From<AllocError>`, `impl From<AllocFailed<..>>` and `impl From<NoMemory>`. Declarations,
 types, clauses, comments and tests are no places."""
 import pathlib

@@ -2,7 +2,7 @@
 # Runs each verb on a design of 1,048,576 bytes with 500 objects, 30 threads and 14,000 operations under a limit of 400,000 KB of address space, as
 # batch systems set one: what the program reserves is in proportion to the text, whether it is written to or not. It runs the proved program, or
 # the one that PROGRAM names, and LIMIT sets another limit in KB. Each run must end with status 0 and say nothing on standard error; where one does
-# not, the script ends with status 1. So that no limit of the code's own is told as want of memory, there are 400 operations of one object,
+# not, the script ends with status 1. So that no limit of the code's own passes for want of memory, there are 400 operations of one object,
 # `accepts` judges a trace of over 100,000 bytes and one of nearly 16,777,216, and a program of 5,000 units is refused by its rule.
 # It needs Linux and Python 3.
 set -uo pipefail

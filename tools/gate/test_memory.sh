@@ -1,8 +1,9 @@
 #!/usr/bin/env bash
-# Runs each verb on a design of 1,048,576 bytes with 30 threads and 14,000 operations under a limit of 400,000 KB of address space, as batch
-# systems set one: what the program reserves is in proportion to the text, whether it is written to or not. It runs the proved program, or the
-# one that PROGRAM names, and LIMIT sets another limit in KB. Each run must end with status 0 and say nothing on standard error. Where one does
-# not, the script ends with status 1. `accepts` judges a trace of over 100,000 bytes, so no smaller limit of its own is told as want of memory.
+# Runs each verb on a design of 1,048,576 bytes with 500 objects, 30 threads and 14,000 operations under a limit of 400,000 KB of address space, as
+# batch systems set one: what the program reserves is in proportion to the text, whether it is written to or not. It runs the proved program, or
+# the one that PROGRAM names, and LIMIT sets another limit in KB. Each run must end with status 0 and say nothing on standard error; where one does
+# not, the script ends with status 1. So that no limit of the code's own passes for want of memory, there are 400 operations of one object,
+# `accepts` judges a trace of over 100,000 bytes and one of nearly 16,777,216, and a program of 5,000 units is refused by its rule.
 # It needs Linux and Python 3.
 set -uo pipefail
 
@@ -45,4 +46,24 @@ if [ "$(wc -c <large.trace)" -le 100000 ]; then
     differences=$((differences + 1))
 fi
 runs accepts large.design large.arrivals large.trace
+
+# The trace of a mine pump over this time is the longest that a file of a trace may be, but for some lines.
+cp "$top/examples/mine_pump.design" .
+sed 's/UNTIL.*/UNTIL 2723900;/' "$top/examples/one_water_alarm.arrivals" >long.arrivals
+runs verify mine_pump.design long.arrivals
+sed '1,/^-- trace$/d' out >long.trace
+bytes=$(wc -c <long.trace)
+if [ "$bytes" -le 16770000 ] || [ "$bytes" -gt 16777216 ]; then
+    echo "verify mine_pump.design: its trace has $bytes bytes, so it is none of the longest" >&2
+    differences=$((differences + 1))
+fi
+runs accepts mine_pump.design long.arrivals long.trace
+
+# More units than a program may have are refused by the rule, and are no want of memory.
+status=0
+(ulimit -v "$limit" && exec timeout 120 "$program" replay units.ada "$top/examples/until_20.arrivals") </dev/null >out 2>err || status=$?
+if [ "$status" -ne 1 ] || [ "$(cat err)" != 'refused G5' ]; then
+    echo "hrthood replay units.ada: status $status, standard error '$(head -c 200 err)'" >&2
+    differences=$((differences + 1))
+fi
 [ "$differences" -eq 0 ]

@@ -5,8 +5,9 @@ An answer of `NoMemory` is a way out that no clause limits, so a limit that is t
 allocation by `?` and `From<AllocError>`. This script lists every other place of crates/*/src where code makes one: the places in ALLOWED, each with
 its reason, and any new one. Exit status 1 where a place is new or an allowed one is not there.
 
-A place is none where code hands an answer on: a match arm whose pattern names `NoMemory`, and the bodies of `impl From<AllocError>`,
-`impl From<AllocFailed<..>>` and `impl From<NoMemory>`. Declarations, types, clauses, comments and tests are no places."""
+A place is none where code hands an answer on: a match arm whose pattern or guard names `NoMemory`, or `OutOfMemory`, which the kit's files answer, a
+branch for which `is_memory()` holds, and the bodies of `impl From<AllocError>`, `impl From<AllocFailed<..>>` and `impl From<NoMemory>`. Declarations,
+types, clauses, comments and tests are no places."""
 import pathlib
 import re
 import sys
@@ -19,15 +20,12 @@ HANDED = "hands on the answer of what was called"
 LIMIT = "a limit of numbers of 32 bits, which no text within its limit of bytes reaches"
 NEVER = "never comes, by the sizes; not proved"
 ALLOWED: dict[Place, str] = {
-    ("crates/background/src/delivery.rt", "BackgroundRefusal::NoMemory"): HANDED,
     ("crates/background/src/making.rt", "Err(_) => BackgroundRefusal::NoMemory,"): FAILED,
-    ("crates/bridge/src/taking.rt", "return Err(Halt::NoMemory);"): HANDED,
     ("crates/ceil_runtime/src/objects.rt", "return Err(NoMemory);"): LIMIT,
     ("crates/ceil_runtime/src/processor.rt", "return Err(NoMemory);"): FAILED,
     ("crates/design_accepts/src/units.rt", "Err(NoMemory)"): NEVER,
     ("crates/design_bounds/src/analysing.rt", "Err(_) => NoBounds::NoMemory,"): FAILED,
     ("crates/hood_io/src/arguments.rt", "Err(_) => Err(NoMemory),"): FAILED,
-    ("crates/hood_io/src/file_shelf.rt", "Err(e) if e.kind() == io::ErrorKind::OutOfMemory => Fetched::NoMemory,"): FAILED,
     ("crates/hood_io/src/mem_shelf.rt", "return Fetched::NoMemory;"): FAILED,
     ("crates/hood_io/src/mem_shelf.rt", "if answer == Fetched::NoMemory {"): HANDED,
     ("crates/hrthood_top/src/finish.rt", "tell(err, &Message::NoMemory);"): HANDED,
@@ -57,6 +55,8 @@ COUNTS: dict[Place, int] = {
 HANDS_ON = re.compile(r"\bimpl\s*(?:<[^{};]*?>)?\s*From<\s*(?:\w+::)*(?:AllocError|AllocFailed<\s*\w+\s*>|NoMemory)\s*>\s*for\b[^{]*\{")
 BLOCKS = re.compile(r"\b(?:requires|ensures)\*?(?:\s+\w+)?\s*\{|\bghost\b[^;={}]*[:=]?\s*\{|\benum\s+\w+[^{;]*\{|#\[cfg\(test\)\]\s*mod\s+\w+\s*\{")
 WORD = re.compile(r"\bNoMemory\b")
+WANTED = re.compile(r"\b(?:NoMemory|OutOfMemory)\b")
+IS_MEMORY = re.compile(r"\bif\s+[\w.]+\.is_memory\(\)\s*$")
 
 
 def blank(text: str, start: int, end: int) -> str:
@@ -124,13 +124,28 @@ def arm_of(text: str, start: int) -> str:
     return ""
 
 
+def is_branch_of_memory(text: str, start: int) -> bool:
+    """Returns whether the word at this place stands in a branch for which `is_memory()` holds."""
+    depth = 0
+    for place in range(start - 1, 0, -1):
+        if text[place] == "}":
+            depth += 1
+        elif text[place] == "{" and depth == 0:
+            return bool(IS_MEMORY.search(text[:place]))
+        elif text[place] == "{":
+            depth -= 1
+    return False
+
+
 def places(text: str) -> list[tuple[int, str]]:
     """Returns the lines, from 1, on which code makes the answer, each with its code."""
     code, lines = code_of(text), text.split("\n")
     found = []
     for word in WORD.finditer(code):
         start, end = word.span()
-        if is_type(code, start, end) or is_pattern(code, end) or WORD.search(arm_of(code, start)):
+        if is_type(code, start, end) or is_pattern(code, end):
+            continue
+        if WANTED.search(arm_of(code, start)) or is_branch_of_memory(code, start):
             continue
         line = code.count("\n", 0, start)
         found.append((line + 1, lines[line].strip()))

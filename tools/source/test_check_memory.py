@@ -27,6 +27,11 @@ CASES: list[tuple[str, str, list[int]]] = [
     ("a conversion of anything else is one", "impl From<Other> for A {\n    fn from(_e: Other) -> A {\n        A::NoMemory\n    }\n}\n", [3]),
     ("declarations, clauses, comments and texts are none", "use a::{B, NoMemory};\npub struct NoMemory;\nenum A {\n    NoMemory,\n}\n/// NoMemory\n"
      "fn f(x: NoMemory) -> Result<u8, NoMemory>\n    ensures { result ≡ Err A.NoMemory }\n{\n    g(\"NoMemory\")\n}\n", []),
+    ("an arm for a file that wants memory is none",
+     "fn f() {\n    match g() {\n        Err(e) if e.kind() == OutOfMemory => A::NoMemory,\n        Err(_) => A::NoMemory,\n    }\n}\n", [4]),
+    ("a branch for want of memory hands it on, and the other does not",
+     "fn f() {\n    if broken.is_memory() {\n        A::NoMemory\n    } else {\n        A::NoMemory\n    }\n}\n", [5]),
+    ("a branch for anything else is one", "fn f() {\n    if !broken.is_memory() {\n        return A::NoMemory;\n    }\n}\n", [3]),
     ("a pattern is none", "fn f() {\n    let Err(A::NoMemory) = g() else {\n        return;\n    };\n}\n", []),
 ]
 

@@ -3,7 +3,8 @@
 
 # in_machine TARGET KERNEL PROGRAM: runs PROGRAM as the only process of a machine with this kernel, and writes the lines of its run. The clock of the
 # machine advances with each instruction, and jumps to the next event if the processor is idle. So the load of the host does not change a run.
-# Writes the files initramfs, console and console.errors into the current folder. Status 4: the machine did not end by itself.
+# Writes the files initramfs, console and console.errors into the current folder. Status 4: the machine did not end by itself. It is ended after 300
+# seconds of the host's processor, which the load of the host does not change, or after two hours.
 in_machine() {
     python3 "${here:?}/initramfs.py" "$3" >initramfs || return 4
     settings="quiet panic=-1 rdinit=/hrt_run sysctl.kernel.sched_rt_runtime_us=-1 HRT_TICK_US=${HRT_TICK_US:-1000} HRT_PAY=${HRT_PAY:-0}"
@@ -13,8 +14,8 @@ in_machine() {
     esac
     emulator=qemu-system-$(processor_of "$1") image=$2
     shift 3
-    timeout 600 "$emulator" "$@" -smp 1 -m 256 -icount shift=3,sleep=off -kernel "$image" -initrd initramfs \
-        -nographic -no-reboot -net none </dev/null >console 2>console.errors || {
+    (ulimit -t 300 && exec timeout 7200 "$emulator" "$@" -smp 1 -m 256 -icount shift=3,sleep=off -kernel "$image" -initrd initramfs \
+        -nographic -no-reboot -net none) </dev/null >console 2>console.errors || {
         echo "$emulator failed: $(tail -n 1 console.errors)" >&2
         return 4
     }

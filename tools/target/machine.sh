@@ -2,12 +2,13 @@
 # An emulated machine of one processor that runs one program. Scripts read this with `.`, after needs.sh; `here` is the folder of both.
 
 # in_machine TARGET KERNEL PROGRAM: runs PROGRAM as the only process of a machine with this kernel, and writes the lines of its run. The clock of the
-# machine advances with each instruction, and jumps to the next event if the processor is idle. So the load of the host does not change a run.
+# machine advances with each instruction, and jumps to the next event if the processor is idle. So the load of the host does not change a run. The
+# kernel leaves out the tests of its ciphers and its certificates, which are two thirds of the time of a boot.
 # Writes the files initramfs, console and console.errors into the current folder. Status 4: the machine did not end by itself. It is ended after 300
 # seconds of the host's processor, which the load of the host does not change, or after two hours.
 in_machine() {
     python3 "${here:?}/initramfs.py" "$3" >initramfs || return 4
-    settings="quiet panic=-1 rdinit=/hrt_run sysctl.kernel.sched_rt_runtime_us=-1 HRT_TICK_US=${HRT_TICK_US:-1000} HRT_PAY=${HRT_PAY:-0}"
+    settings="quiet cryptomgr.notests initcall_blacklist=load_system_certificate_list panic=-1 rdinit=/hrt_run sysctl.kernel.sched_rt_runtime_us=-1 HRT_TICK_US=${HRT_TICK_US:-1000} HRT_PAY=${HRT_PAY:-0}"
     case $(processor_of "$1") in
         x86_64) set -- "$@" -M q35,hpet=off -cpu max -append "console=ttyS0 tsc=reliable $settings" ;;
         aarch64) set -- "$@" -M virt -cpu cortex-a53 -append "console=ttyAMA0 $settings" ;;

@@ -8,7 +8,8 @@
 # seconds of the host's processor, which the load of the host does not change, or after two hours.
 in_machine() {
     python3 "${here:?}/initramfs.py" "$3" >initramfs || return 4
-    settings="quiet cryptomgr.notests initcall_blacklist=load_system_certificate_list panic=-1 rdinit=/hrt_run sysctl.kernel.sched_rt_runtime_us=-1 HRT_TICK_US=${HRT_TICK_US:-1000} HRT_PAY=${HRT_PAY:-0}"
+    settings="quiet panic=-1 rdinit=/hrt_run sysctl.kernel.sched_rt_runtime_us=-1 HRT_TICK_US=${HRT_TICK_US:-1000} HRT_PAY=${HRT_PAY:-0}"
+    settings="$settings cryptomgr.notests initcall_blacklist=load_system_certificate_list"
     case $(processor_of "$1") in
         x86_64) set -- "$@" -M q35,hpet=off -cpu max -append "console=ttyS0 tsc=reliable $settings" ;;
         aarch64) set -- "$@" -M virt -cpu cortex-a53 -append "console=ttyAMA0 $settings" ;;

@@ -4,15 +4,16 @@
 //
 // It offers diagnostics while one types, by the sentences and places of web/refusals.js; the outline; the place where an object, an operation or a
 // variable is declared; for an object its bounds, its ceiling and what they are made of, as `explain` writes them; and the layout of tidy.mjs. The
-// program gives every refusal and every number. PROGRAM is its path, and that of this repository if it isn't set.
+// program gives every refusal and every number. PROGRAM is its path, and that of this repository if it isn't set, without its runs without proof: they
+// take minutes. If there is no answer, a warning in the first line says why, and the editor shows it, once for each reason.
 import { readFileSync, realpathSync } from "node:fs";
 import { join } from "node:path";
-import { argv, exit, stderr, stdin, stdout } from "node:process";
+import { argv, env, exit, stderr, stdin, stdout } from "node:process";
 import { fileURLToPath } from "node:url";
 import { foundOf } from "../../web/places.js";
 import { Refusals } from "../../web/refusals.js";
 import { DesignText, linesOn } from "./design_places.mjs";
-import { NoAnswer, TOP, answerOver, toldLines } from "./program.mjs";
+import { NoAnswer, TOP, answerOver, scriptLines, toldLines } from "./program.mjs";
 import { tidied } from "./tidy.mjs";
 
 /** @typedef {{ line: number, character: number }} Position */
@@ -29,6 +30,8 @@ const INTERNAL = -32603;
 const NOT_INITIALIZED = -32002;
 const CANCELLED = -32800;
 const FAILED = -32803;
+const ERROR = 1; // kinds of messages, and of diagnostics
+const WARNING = 2;
 const KINDS = { design: 2, object: 5, operation: 6, data: 8, thread: 24 };
 const MOST = 2 ** 26; // bytes of a message
 const refusals = new Refusals(JSON.parse(readFileSync(join(TOP, "web/refusals.json"), "utf8")));
@@ -118,15 +121,19 @@ class Document {
 
   /** Returns what the program writes of the bounds of this text: none, if it refuses the design. */
   bounds() {
-    this.lines ??= this.askBounds();
+    this.lines ??= this.askBounds().catch((fault) => {
+      this.lines = null; // asked again at the next hover
+      throw fault;
+    });
     return this.lines;
   }
 
   /** @returns {Promise<string[]>} */
   async askBounds() {
     const isBackground = this.tree.hasBackground();
-    const { status, out } = await answerOver(isBackground ? "background" : "explain", Buffer.from(this.text));
-    if (status !== 0) return [];
+    const { status, out, err } = await answerOver(isBackground ? "background" : "explain", Buffer.from(this.text));
+    if (status > 1) throw new Fault(FAILED, toldLines(err).join("; "));
+    if (status === 1) return [];
     const lines = out.toString().split("\n").slice(0, -1);
     return isBackground ? lines.filter((/** @type {string} */ line) => line.startsWith("-- thread ")).map((/** @type {string} */ line) => line.slice(3)) : lines;
   }
@@ -153,7 +160,8 @@ class Server {
     this.documents = new Map();
     /** @type {Map<string|number, AbortController>} */
     this.running = new Map();
-    this.hasComplained = false;
+    /** @type {Set<string>} */
+    this.said = new Set();
     /** @type {Record<string, (params: any, signal: AbortSignal) => any>} */
     this.requests = {
       "initialize": () => this.initialize(),
@@ -301,12 +309,21 @@ class Server {
     try {
       const verb = document.tree.hasBackground() ? "background" : "analyse";
       const { err } = await answerOver(verb, Buffer.from(document.text), signal);
-      if (!signal.aborted) this.publish(document, toldLines(err).map((line) => diagnosticOf(document, line)));
+      if (signal.aborted) return;
+      for (const line of scriptLines(err)) this.show(WARNING, line);
+      this.publish(document, toldLines(err).map((line) => diagnosticOf(document, line)));
     } catch (fault) {
       if (signal.aborted) return;
-      if (!this.hasComplained) this.send({ jsonrpc: "2.0", method: "window/showMessage", params: { type: 1, message: `hrthood: ${fault instanceof Error ? fault.message : fault}` } });
-      this.hasComplained = true;
+      const why = fault instanceof Error ? fault.message : String(fault);
+      this.show(ERROR, `hrthood: ${why}`);
+      this.publish(document, [{ range: document.range(0, 0), severity: WARNING, source: "hrthood", message: `The design is not checked: ${why}` }]);
     }
+  }
+
+  /** Shows a message, once. */
+  show(/** @type {number} */ type, /** @type {string} */ message) {
+    if (!this.said.has(message)) this.send({ jsonrpc: "2.0", method: "window/showMessage", params: { type, message } });
+    this.said.add(message);
   }
 
   // ---- Requests ----
@@ -376,6 +393,7 @@ class Reader {
 }
 
 function main() {
+  env.HRTHOOD_UNPROVED ??= "never";
   const server = new Server((message) => {
     const body = Buffer.from(JSON.stringify(message));
     stdout.write(Buffer.concat([Buffer.from(`Content-Length: ${body.length}\r\n\r\n`), body]));

@@ -28,6 +28,9 @@ process.on("exit", () => {
 });
 for (const [signal, number] of Object.entries({ SIGHUP: 1, SIGINT: 2, SIGTERM: 15 })) process.on(signal, () => process.exit(128 + number));
 
+/** Returns the lines of standard error that are those of the script `hrthood`, and not the program's own. */
+export const scriptLines = (/** @type {Buffer} */ err) => err.toString().split("\n").filter((line) => line.startsWith("hrthood: "));
+
 /**
  * Runs the program with these arguments, and returns its status and what it wrote. If the signal aborts, the run ends without an answer.
  * @param {string[]} words
@@ -46,8 +49,10 @@ export function answerTo(words, signal) {
     run.on("error", (/** @type {Error} */ fault) => reject(new NoAnswer(`${program}: ${fault.message}`)));
     run.on("close", (/** @type {number|null} */ status, /** @type {string|null} */ by) => {
       runs.delete(run);
+      const told = Buffer.concat(err);
       if (status === null) reject(new NoAnswer(`${program} was ended by ${by}`));
-      else resolve({ status, out: Buffer.concat(out), err: Buffer.concat(err) });
+      else if (status === NO_ANSWER) reject(new NoAnswer(scriptLines(told).join(" ").replaceAll("hrthood: ", "") || `${program} has no answer`));
+      else resolve({ status, out: Buffer.concat(out), err: told });
     });
   });
 }

@@ -11,7 +11,6 @@ import { TOP } from "./program.mjs";
 
 const room = mkdtempSync(join(tmpdir(), "editors-"));
 const examples = join(TOP, "examples");
-const vim = join(TOP, "editors/vim");
 let [tried, failed] = [0, 0];
 
 function judge(/** @type {boolean} */ isRight, /** @type {string} */ what) {
@@ -78,10 +77,16 @@ function tryGrammar() {
   judge(scopeName === grammar.scopeName && language.id === grammar.language && language.extensions[0] === ".design", "the manifest");
   const place = new RegExp(matcher.pattern.regexp).exec("a b.design:51:14: error: S1: Before this. [refused S1]");
   judge(place?.slice(1).join("|") === "a b.design|51|14|error|S1: Before this. [refused S1]", `the matcher of problems: ${place}`);
+  const { tasks: [task] } = JSON.parse(readFileSync(join(path, "tasks.json"), "utf8"));
+  const late = spawnSync(task.command.replace("/path/to/lafomizana", TOP), task.args.map((/** @type {string} */ one) => one.replace("${file}", join(examples, "late_control.design"))),
+    { encoding: "utf8" });
+  const line = new RegExp(matcher.pattern.regexp).exec(late.stderr.split("\n")[0])?.slice(1).join("|");
+  judge(task.problemMatcher === `$${matcher.name}` && /late_control.design\|42\|47\|error\|U1: .*star_tracker/.test(line ?? ""), `the task: ${line}`);
   const rules = patterns.map((/** @type {{ name: string, match: string }} */ { name, match }) => (
     { name: name.replace(/\.hrthood$/, ""), regex: new RegExp(match.replace("(?i)", ""), match.startsWith("(?i)") ? "gi" : "g") }));
-  let count = 0;
-  for (const name of readdirSync(examples).filter((one) => one.endsWith(".design"))) {
+  let [count, directives] = [0, 0];
+  const names = [...readdirSync(examples), ...readdirSync(join(examples, "joined")).map((one) => `joined/${one}`)];
+  for (const name of names.filter((one) => one.endsWith(".design"))) {
     const text = readFileSync(join(examples, name), "utf8");
     const scopes = text.split("\n").flatMap((line) => [...scopesOf(line, rules), ""]);
     for (const { word, index, length } of tokensOf(text)) {
@@ -91,22 +96,37 @@ function tryGrammar() {
     }
     for (const found of text.matchAll(/--[^\n]*/g)) {
       judge(scopes.slice(found.index, (found.index ?? 0) + found[0].length).every((one) => one === "comment.line.double-dash"), `${name}: ${found[0]}`);
+      const { match, captures } = patterns.find((/** @type {{ match: string }} */ rule) => new RegExp(rule.match).test(found[0]));
+      const word = /^--\s*(@\w+)/.exec(found[0])?.[1];
+      const isOne = word === "@include" || word === "@copy";
+      if (isOne) directives++;
+      const scope = new RegExp(match).exec(found[0])?.[1] === word ? captures?.["1"].name : undefined;
+      judge(scope === (isOne ? "keyword.control.directive.hrthood" : undefined), `${name}: ${found[0]} has ${scope}`);
     }
   }
-  judge(count > 3000, `${count} tokens`);
+  judge(count > 3000 && directives === 4, `${count} tokens, ${directives} directives`);
   console.log(`${count} tokens by the grammar of editors/vscode`);
 }
 
 // ---- Vim and Neovim ----
 
+// The settings of docs/USING.md, after others that have found out of kinds of files already.
+const page = readFileSync(join(TOP, "docs/USING.md"), "utf8");
+const [colours, server] = [...page.matchAll(/```vim\n(.*?)\n```/gs)].map(([, lines]) => lines.replace("/path/to/lafomizana", TOP));
+
 const has = (/** @type {string} */ command) => spawnSync(command, ["--version"]).error === undefined;
 
-/** Runs lines of Vim's own language in an editor, over a file, and returns what they wrote into the file `out` of the room. */
-function edited(/** @type {string} */ editor, /** @type {string} */ file, /** @type {string[]} */ lines) {
+/**
+ * Runs lines of Vim's own language in an editor, over a file, and returns what they wrote into the file `out` of the room.
+ * @param {string} editor
+ * @param {string} file
+ * @param {string[]} lines
+ */
+function edited(editor, file, lines, settings = colours) {
   const script = join(room, "script.vim");
   const out = join(room, "out");
   writeFileSync(out, "");
-  writeFileSync(script, [`set runtimepath^=${vim}`, "filetype plugin on", "syntax on", `edit ${file}`, ...lines, "qall!", ""].join("\n"));
+  writeFileSync(script, ["syntax on", settings, `edit ${file}`, ...lines, "qall!", ""].join("\n"));
   const words = editor === "nvim" ? ["--headless", "-u", "NONE", "-i", "NONE", "-n", "-S", script] : ["-es", "-N", "-u", "NONE", "-i", "NONE", "-n", "-S", script];
   const done = spawnSync(editor, words, { encoding: "utf8", timeout: 120000, input: "", env: { ...env, TERM: "dumb" } });
   judge(done.status === 0, `${editor}: ${done.status} ${done.stdout} ${done.stderr}`);
@@ -154,7 +174,6 @@ function tryServer() {
   writeFileSync(file, text.replace("deadline = 200 ms", "deadline = 2000 ms"));
   const lua = `
     local told = {}
-    local client = require('hrthood').start()
     told.waited = vim.wait(60000, function() return #vim.diagnostic.get(0) > 0 end, 50)
     told.diagnostics = vim.tbl_map(function(one) return { one.lnum, one.code or one.user_data.lsp.code } end, vim.diagnostic.get(0))
     vim.api.nvim_buf_set_lines(0, 0, -1, false, vim.fn.readfile('${join(examples, "commented.design")}'))
@@ -163,26 +182,40 @@ function tryServer() {
       local answers = vim.lsp.buf_request_sync(0, method, params, 60000) or {}
       for _, answer in pairs(answers) do return answer.result end
     end
-    vim.fn.search('fan.switch (1)')
-    vim.fn.search('switch')
-    told.definition = ask('textDocument/definition', vim.lsp.util.make_position_params(0, 'utf-16')).range.start.line
     vim.fn.search('object thermometer')
     vim.fn.search('thermometer')
     told.hover = ask('textDocument/hover', vim.lsp.util.make_position_params(0, 'utf-16')).contents.value
     told.symbols = #ask('textDocument/documentSymbol', { textDocument = vim.lsp.util.make_text_document_params() })[1].children[1].children
-    local edits = ask('textDocument/formatting', vim.lsp.util.make_formatting_params({}))
-    vim.lsp.util.apply_text_edits(edits, 0, 'utf-16')
+    -- The keys and the command.
+    local buffer = vim.fn.bufnr()
+    vim.cmd('normal K')
+    told.window = vim.wait(60000, function() return #vim.api.nvim_list_wins() == 2 end, 50)
+    for _, one in ipairs(vim.api.nvim_list_wins()) do
+      if vim.api.nvim_win_get_config(one).relative ~= '' then vim.api.nvim_win_close(one, true) end
+    end
+    vim.fn.cursor(1, 1)
+    vim.fn.search('fan.switch (1)')
+    vim.fn.search('switch')
+    vim.cmd('normal gd')
+    vim.wait(60000, function() return vim.fn.line('.') ~= vim.fn.search('fan.switch (1)', 'nw') end, 50)
+    told.definition = vim.fn.line('.') - 1
+    vim.cmd('normal gO')
+    told.listed = vim.wait(60000, function() return #vim.fn.getqflist() > 0 end, 50) and #vim.fn.getqflist()
+    vim.cmd('cclose')
+    told.buffer = vim.fn.bufnr() == buffer
+    vim.cmd('Tidy')
     told.text = table.concat(vim.api.nvim_buf_get_lines(0, 0, -1, false), '\\n')
     vim.fn.writefile({ vim.fn.json_encode(told) }, '${join(room, "out")}')`;
   const script = join(room, "server.lua");
   writeFileSync(script, lua);
-  const told = JSON.parse(edited("nvim", file, [`luafile ${script}`]) || "{}");
+  const told = JSON.parse(edited("nvim", file, [`luafile ${script}`], `${colours}\n${server}`) || "{}");
   const line = (/** @type {string} */ part) => text.slice(0, text.indexOf(part)).split("\n").length - 1;
   judge(told.waited === true && JSON.stringify(told.diagnostics) === JSON.stringify([[line("deadline = 200 ms"), "V11"]]), `diagnostics: ${JSON.stringify(told.diagnostics)}`);
   judge(told.mended === true, "no diagnostics of a mended text");
   judge(told.definition === line("operation switch"), `definition: ${told.definition}`);
   judge(String(told.hover).includes("thread thermometer priority 2 period 500"), `hover: ${told.hover}`);
   judge(told.symbols === 3, `symbols: ${told.symbols}`);
+  judge(told.window === true && told.listed === 11 && told.buffer === true, `keys: ${told.window} ${told.listed} ${told.buffer}`);
   judge(told.text === readFileSync(join(examples, "commented_tidy.design"), "utf8").trimEnd(), `layout: ${told.text}`);
   console.log("nvim: diagnostics, definition, hover, outline and layout of the language server");
 }

@@ -283,6 +283,38 @@ async function tryFaults(/** @type {Client} */ client) {
   equal([(await client.next(({ id }) => id === "two")).error?.code, (await client.next(({ id }) => id === "three")).error?.code], [-32601, -32601], "two at once");
 }
 
+/** A program that has no answer accepts nothing: the words of the script `hrthood`, a failed allocation, and an answer without proof are shown. */
+async function tryNoAnswers() {
+  const script = join(room, "no_answer.sh");
+  const shell = (/** @type {string} */ body) => {
+    writeFileSync(script, `#!/bin/sh\n${body}\n`);
+    chmodSync(script, 0o755);
+  };
+  shell("echo 'hrthood: no proved program of these sources' >&2; exit 125");
+  const client = new Client(script);
+  await client.start();
+  const uri = "file:///unread.design";
+  client.open(uri, pump);
+  const [warning, ...others] = await client.diagnostics(uri, 1);
+  equal([warning?.severity, warning?.message, others.length], [2, "The design is not checked: no proved program of these sources", 0], "status 125");
+  const message = await client.next(({ method }) => method === "window/showMessage");
+  equal(message.params, { type: 1, message: "hrthood: no proved program of these sources" }, "status 125 is shown");
+  const hover = () => client.ask("textDocument/hover", at(uri, pump, "OBJECT motor", 8));
+  equal((await hover()).error?.message, "Error: no proved program of these sources", "hover with status 125");
+  const layout = await client.ask("textDocument/formatting", { textDocument: { uri }, options: {} });
+  equal([layout.error?.code, layout.error?.message], [-32803, "Error: no proved program of these sources"], "layout with status 125");
+  shell("echo 'no memory' >&2; exit 5");
+  equal((await hover()).error?.message, "no memory", "hover with status 5");
+  client.change(uri, 2, [{ text: pump }]);
+  equal((await client.diagnostics(uri, 2)).map((/** @type {any} */ one) => [one.severity, one.message]), [[1, "no memory"]], "status 5");
+  shell(`echo 'hrthood: this answer is NOT PROVED' >&2; echo "run without proof: \${HRTHOOD_UNPROVED-}" >&2; exec '${PROGRAM}' "$@"`);
+  client.change(uri, 3, [{ text: pump }]);
+  equal((await client.next(({ method }) => method === "window/showMessage")).params, { type: 2, message: "hrthood: this answer is NOT PROVED" }, "an answer without proof");
+  equal((await client.diagnostics(uri, 3)).map((/** @type {any} */ one) => one.message), ["run without proof: never"], "the server asks for none");
+  judge((await hover()).result?.contents.value.includes("\nceiling motor 6\n"), "the next hover asks again");
+  equal(await client.stop(), 0, "the end after no answers");
+}
+
 /** A program that takes long is left when its request is cancelled or the server ends, and no file of it stays. */
 async function trySlow() {
   const script = join(room, "slow.sh");
@@ -318,6 +350,8 @@ async function tryEnds() {
   none.open("file:///a.design", pump);
   const told = await none.next(({ method }) => method === "window/showMessage");
   judge(told.params?.message.includes("ENOENT"), `no program: ${shown(told)}`);
+  const [warning, ...others] = await none.diagnostics("file:///a.design", 1);
+  equal([warning?.severity, warning?.range.start, others.length], [2, { line: 0, character: 0 }, 0], "a text that no program has read has a warning");
   none.open("file:///b.design", pump);
   const hover = await none.ask("textDocument/hover", at("file:///b.design", pump, "OBJECT motor", 8));
   equal(hover.error?.code, -32803, "hover without a program");
@@ -346,6 +380,7 @@ try {
   await tryFaults(client);
   equal(await client.stop(), 0, "the end");
   equal(readdirSync(client.room), [], "no temporary file is left");
+  await tryNoAnswers();
   await trySlow();
   await tryEnds();
 } finally {

@@ -168,6 +168,9 @@ function tryOtherPrograms() {
   }
   const none = run(join(TOP, "tools/design/tidy.mjs"), [file], join(room, "absent"));
   judge(none.status === 125 && none.stdout === "" && /^tidy: .*ENOENT\n$/.test(none.stderr), `no program: ${none.status} ${none.stderr}`);
+  writeFileSync(script, "#!/bin/sh\necho 'hrthood: no proved program of these sources' >&2\nexit 125\n");
+  const unanswered = run(join(TOP, "tools/design/tidy.mjs"), ["--check", file], script);
+  judge(same(unanswered, { status: 125, stdout: "", stderr: "tidy: no proved program of these sources\n" }), `status 125: ${unanswered.stderr}`);
   // It changes the file while the design is formatted.
   writeFileSync(script, `#!/bin/sh\necho -- y >>'${file}'; exec '${PROGRAM}' "$@"\n`);
   const changed = run(join(TOP, "tools/design/tidy.mjs"), ["--write", file], script);

@@ -154,6 +154,15 @@ echo '// an edit' >>clone/crates/hrthood/src/main.rt
 unproved 'a page of other sources' 'lafomizana.html is of other sources'
 make_page "" 'kit-1 logic 2'
 unproved 'a page without a checksum' 'lafomizana.html is of other sources'
+: >rt_calls
+export HRTHOOD_UNPROVED=never
+run check x.design
+unset HRTHOOD_UNPROVED
+compare 'no run without proof: status' "$status" 125
+compare 'no run without proof: standard output' "$out" ''
+compare 'no run without proof: says why' "$err" \
+    'hrthood: no proved program of these sources, since lafomizana.html is of other sources; tools/gate/prove_program.sh proves and builds it'
+compare 'no run without proof: calls of rt' "$(cat rt_calls)" ''
 rm clone/lafomizana.html
 unproved 'no page' 'there is no page lafomizana.html'
 make_page "$(sum_of_sources)" 'kit-1 logic 2'

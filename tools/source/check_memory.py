@@ -31,7 +31,7 @@ ALLOWED: dict[Place, str] = {
     ("crates/hrthood_top/src/finish.rt", "tell(err, &Message::NoMemory);"): HANDED,
     ("crates/hrthood_top/src/finish.rt", "Status::NoMemory"): HANDED,
     ("crates/hrthood_words/src/reading.rt", "Some(_) => Unread::NoMemory,"): FAILED,
-    ("crates/linker/src/link.rt", "return Err(NoMemory);"): LIMIT,
+    ("crates/linker/src/expressions.rt", "return Err(NoMemory);"): LIMIT,
     ("crates/linker/src/body.rt", "let end = start.checked_add(count).ok_or(NoMemory)?;"): LIMIT,
     ("crates/linker/src/fill.rt", "end.checked_sub(1).ok_or(NoMemory)"): NEVER,
     ("crates/linker/src/fill.rt", "at.checked_add(1).ok_or(NoMemory)"): LIMIT,

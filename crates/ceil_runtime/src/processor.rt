@@ -17,11 +17,13 @@ use crate::threads::threads_in;
 use ada_tree::{AdaProgram, Unit};
 use arrivals_tree::{Arrival, Arrivals};
 use link_queue::Links;
-use task_runtime::{Deed, Entry, Piece, Task, rooms_of, task_room};
 use linker::{LinkedUnits, link_units};
 use seq_tree::{Costs, NoMemory};
 use std::alloc::Global;
-use task_runtime::{Act, Readiness, Section, Thread, Timing, ceiling_of};
+use task_runtime::{
+    Act, Deed, Entry, Piece, Readiness, Section, Task, Thread, Timing, ceiling_of, rooms_of,
+    task_room,
+};
 use trace_tree::Event;
 
 /// What an advance of the machine came to.

@@ -9,9 +9,9 @@ ghost use Rattle.linker.specs.declared.code.Ins.TheVariants as InsIs;
 
 use crate::code::Code;
 use crate::fill::{add_expr, narrow};
+use crate::nodes::Operand;
 use crate::plain::slot_of;
 use crate::scope::Scope;
-use crate::nodes::Operand;
 use seq_tree::{Expr, Mode, NoMemory, Param};
 
 /// The place behind the last of the actuals. The one error is that no number tells it.

@@ -4,9 +4,9 @@ ghost use Rattle.linker.specs.Linking.{Added, Fills};
 ghost use Rattle.linker.specs.Standing.{Reads, lists_of};
 
 use crate::code::{Code, Ins};
-use crate::scope::Scope;
 use crate::expressions::link_expr;
 use crate::nodes::Operand;
+use crate::scope::Scope;
 use seq_tree::{Expr, NoMemory};
 
 /// The place before this one. The one error is that there is none.

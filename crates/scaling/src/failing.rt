@@ -8,13 +8,13 @@ ghost use Rattle.law_scaling.specs.Parts.{first_dear};
 ghost use Rattle.scaling.specs.Failures.{IsBounded, IsCheap, IsFailureIn, IsHolding, IsNamed};
 ghost use Rattle.scaling.specs.Views.{view_of};
 
+use crate::entries::scaled;
 use crate::margin::Next;
 use crate::parts::{PartView, first_dear, part_names};
 use analysis::Ranking;
 use design_bounds::{NoBounds, bounds_of};
 use ods_tree::Flat;
 use rt_block::{Facts, facts_of, part_costs, table};
-use crate::entries::scaled;
 use seq_tree::{Name, NoMemory};
 use std::alloc::Global;
 

@@ -15,13 +15,13 @@ ghost use Rattle.task_runtime.specs.Sounds.{IsAtWork, owner_of};
 ghost use Rattle.task_runtime.specs.Tasks.{ActsAs, task_of};
 ghost use Rattle.task_runtime.specs.declared.piece.Piece.TheVariants as PieceIs;
 
+use crate::effects::Act;
 use crate::piece::{Deed, Entry, Piece};
 use crate::progress::Start;
 use crate::task::Task;
+use crate::values::Var;
 use linker::LinkedUnits;
 use seq_tree::Costs;
-use crate::effects::Act;
-use crate::values::Var;
 use trace_tree::Values;
 
 impl<'a> Task<'a> {

@@ -12,10 +12,9 @@ ghost use Rattle.task_runtime.specs.Stacked.{vars_of};
 ghost use Rattle.task_runtime.specs.Handing.{TargetsAt, ValuesAt, target_slots, values_of};
 
 use crate::slots::Slots;
-use linker::{Operand, value_at};
-use linker::Code;
-use seq_tree::{Datum, Mode, Param};
 use crate::values::Var;
+use linker::{Code, Operand, value_at};
+use seq_tree::{Datum, Mode, Param};
 use trace_tree::Values;
 
 /// Adds the values of the actuals that are handed in, in order: their operands stand in code from `first` on.

@@ -8,8 +8,8 @@ ghost use Rattle.task_runtime.specs.Fitting.{names_of};
 ghost use Rattle.task_runtime.specs.Stacked.{vars_of};
 
 use crate::slots::Slots;
-use seq_tree::{Datum, Mode, Param};
 use crate::values::Var;
+use seq_tree::{Datum, Mode, Param};
 
 /// Puts the values that an object lends in the first slots.
 pub fn lend(slots: &mut Slots, data: &[Var])

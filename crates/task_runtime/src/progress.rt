@@ -25,19 +25,18 @@ ghost use Rattle.task_runtime.specs.Settling.{IsAmid};
 ghost use Rattle.task_runtime.specs.Silences.{ins_ticks, piece_ticks, piece_works};
 ghost use Rattle.task_runtime.specs.declared.piece.Piece.TheVariants as PieceIs;
 
+use crate::effects::Act;
 use crate::hands::{hand_in, hand_out, ins_len, keep_data, store};
 use crate::opening::{lend, open_data, open_params};
 use crate::piece::{Deed, Entry, Frame, Piece, Request};
 use crate::reserve::Room;
 use crate::settle::settled;
 use crate::stack::Stack;
-use linker::Operand;
-use linker::{Ins, LinkedUnits};
-use seq_tree::{Costs, NoMemory};
-use std::alloc::Global;
-use crate::effects::Act;
 use crate::thread::Thread;
 use crate::values::Var;
+use linker::{Ins, LinkedUnits, Operand};
+use seq_tree::{Costs, NoMemory};
+use std::alloc::Global;
 use trace_tree::Values;
 
 /// What starts with a piece: its ticks, and how many `work` statements start with it.

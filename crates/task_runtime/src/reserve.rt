@@ -9,12 +9,12 @@ ghost use Rattle.task_runtime.specs.Bodies.{first_body};
 ghost use Rattle.task_runtime.specs.Reserving.{AreKnown, CalleeFits, HasRoom, InnersFit, IsRoomed, IsWithin, OpFits, TellsEnd, extent_in};
 ghost use Rattle.task_runtime.specs.Sounds.{CanWork, IsTaskStart};
 
+use crate::room::room_of;
+use crate::thread::{Thread, Timing};
 use linker::{Ins, LinkedUnits, OpBody};
 use rings::targets_first;
 use seq_tree::NoMemory;
 use std::alloc::Global;
-use crate::room::room_of;
-use crate::thread::{Thread, Timing};
 
 /// The room for bodies that run one inside another: how many they are at most, and how many slots they have together.
 #[derive(Clone, Copy)]

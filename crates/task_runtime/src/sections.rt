@@ -1,8 +1,8 @@
 ghost use Rattle.std.specs.Prelude.{◌≡◌, ◌<◌, length, nat_lt, vec_capacity};
 
-use crate::task::Task;
 use crate::inside::{Held, Section};
 use crate::readiness::Gate;
+use crate::task::Task;
 
 impl<'a> Task<'a> {
     ghost use Rattle.machine.specs.Effects.{inside_now, outside_now};

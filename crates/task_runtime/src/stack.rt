@@ -15,11 +15,10 @@ use crate::frames::Frames;
 use crate::opening::{open_data, open_params};
 use crate::reserve::Room;
 use crate::slots::Slots;
-use linker::{Operand, value_at};
-use linker::Code;
+use crate::thread::{Thread, Timing};
+use linker::{Code, Operand, value_at};
 use seq_tree::NoMemory;
 use std::alloc::Global;
-use crate::thread::{Thread, Timing};
 use trace_tree::Values;
 
 /// The stacks of a task: its slots, and the calls that are under way, the innermost last. There is room in both for the deepest chain of calls

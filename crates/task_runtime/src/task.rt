@@ -9,15 +9,15 @@ ghost use Rattle.task_runtime.specs.Lefts.{pieces_left};
 ghost use Rattle.task_runtime.specs.Readies.{is_ready, rests_as};
 
 use crate::durations::joined;
+use crate::inside::Held;
 use crate::progress::Progress;
+use crate::readiness::{Gate, Readiness};
 use crate::reserve::Room;
+use crate::thread::{Thread, Timing};
 use crate::timing::{opening_rest, opening_time};
 use linker::LinkedUnits;
 use seq_tree::{Costs, NoMemory};
 use std::alloc::Global;
-use crate::inside::Held;
-use crate::readiness::{Gate, Readiness};
-use crate::thread::{Thread, Timing};
 
 /// A task at work: how far it has come, and what the processor counts of it.
 #[derive(Drop)]

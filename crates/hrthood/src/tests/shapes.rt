@@ -11,7 +11,7 @@
 //! | `nested` | of so many objects, each in the one before it, on a line of its own and without an end |
 //! | `doubling` | of passive objects of which each calls the next one twice, up to this many |
 //! | `many` | of so many passive objects in an active one |
-//! | `linker` | of a cyclic object that calls, so many times, an operation whose link leads to names of 64 bytes |
+//! | `linked` | of a cyclic object that calls, so many times, an operation whose link leads to names of 64 bytes |
 //! | none of these | of one cyclic object, with `object`, `attributes`, `thread` and the cost of `null;` in `null` |
 //! | `design_len` | beside any: with spaces behind it, up to so many bytes |
 

@@ -2,7 +2,7 @@
 // chains of requests, as bars behind one another.
 import { TICKS } from "./clock.js";
 import { chainBounds, partsOf, slackOf, spareOf, termsOf } from "./explanation.js";
-import { draw, group, short, textAt, widthOf } from "./markup.js";
+import { draw, fillBy, group, short, textAt, widthOf } from "./markup.js";
 
 const HUES = 12; // of threads, as in bars.css
 const ROW = 44; // pixels of height, without the lines of the sum
@@ -12,6 +12,11 @@ const NAMES = 170; // beside the bars
 const NUMBERS = 150;
 const CHAINS = "Chains of requests";
 const ABOVE = "a thread of greater priority, in the colour of its own cost";
+
+/** The fill of a part whose colour no style tells: that of blocking is hatched. */
+function filled(kind) {
+  return /\bblocked$/.test(kind) ? { fill: fillBy("blocked") } : {};
+}
 
 /** A share as a percentage without digits, and `under 1 %` where that would be 0. */
 function shareOf(ticks, whole) {
@@ -71,7 +76,7 @@ export class Bars {
   patterns() {
     const made = (id, stripe) => draw("pattern", { id, width: 5, height: 5, patternUnits: "userSpaceOnUse", patternTransform: "rotate(45)" }).append(
       draw("rect", { class: "blocked-ground", width: 5, height: 5 }), draw("rect", { class: stripe, width: 2.5, height: 5 }));
-    return draw("defs", {}).append(made("bars-blocked", "blocked-stripe"));
+    return draw("defs", {}).append(made("blocked", "blocked-stripe"));
   }
 
   /** What a bar consists of, from the left: a kind, ticks, words and a title each. */
@@ -152,7 +157,7 @@ export class Bars {
     let x = this.left;
     for (const { kind, ticks, words, title } of this.segments(thread)) {
       const width = ticks * pixels;
-      made.append(draw("rect", { class: `part ${kind}`, x, y, width: Math.max(0.8, width), height: BAR }, `${thread.name}: ${title}`));
+      made.append(draw("rect", { class: `part ${kind}`, ...filled(kind), x, y, width: Math.max(0.8, width), height: BAR }, `${thread.name}: ${title}`));
       const fits = [words, words.replace(/^\S+ /, "")].find((one) => one !== "" && widthOf(one, 10) + 8 < width);
       if (fits !== undefined) made.append(textAt(x + width / 2, y + 15, fits, "inside middle"));
       x += width;
@@ -222,7 +227,7 @@ export class Bars {
     for (const [kind, words] of items) {
       const whole = 44 + widthOf(words, 10);
       if (x > this.left && x + whole > this.width) [x, y] = [this.left, y + 20];
-      made.append(draw("rect", { class: kind, x, y, width: 20, height: kind === "over" ? 4 : 12 }), textAt(x + 26, y + 10, words, "small"));
+      made.append(draw("rect", { class: kind, ...filled(kind), x, y, width: 20, height: kind === "over" ? 4 : 12 }), textAt(x + 26, y + 10, words, "small"));
       x += whole;
     }
     return { made, height: y - top + 14 };

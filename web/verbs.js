@@ -120,6 +120,15 @@ const VERBS = [
   { verb: "explain", label: "Explain", takes: ["design"], file: "explanation.txt", view: explainView },
 ];
 
+/** A hint with the names of tabs in the place of verbs, as the page knows them. */
+function withTabs(text) {
+  const labels = new Map([["analyse", "Bounds"], ...VERBS.map(({ verb, label }) => /** @type {[string, string]} */ ([verb, label]))]);
+  return text.replace(/, `(tools\/\S+)`/g, ", and outside this page `$1`").replace(/(?<=(^|\. )?)`(\w+)`/g, (whole, before, verb, place) => {
+    if (!labels.has(verb)) return whole;
+    return `${before !== undefined || place === 0 ? "The" : "the"} tab ${labels.get(verb)}`;
+  });
+}
+
 /** The tab of a verb. Its run begins when the tab is chosen, and again when a text that it takes has changed meanwhile. */
 class VerbTab {
   constructor({ verb, label, takes, file, view, none = undefined }) {
@@ -204,7 +213,7 @@ class VerbTab {
       ...goButton(this.mark).map((button) => make("div", { class: "tools" }, button)),
       make("p", {}, make("b", {}, ...withWords(head))),
       ...why,
-      make("p", {}, ...withWords(isOther ? NO_MACHINE : hint)),
+      make("p", {}, ...withWords(isOther ? NO_MACHINE : withTabs(hint))),
       make("pre", { class: "text" }, line),
     ];
   }

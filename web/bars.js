@@ -42,9 +42,10 @@ function givenUp({ beyond, behind }, clock) {
  * on past the stroke of its deadline.
  */
 export class Bars {
-  constructor({ threads, chains = [] }, width, { scale = "deadline", clock = TICKS } = {}) {
+  constructor({ threads, chains = [] }, width, { scale = "deadline", clock = TICKS, shown = threads, hasChains = true } = {}) {
     this.threads = threads;
-    this.chains = chains;
+    this.shown = shown; // those of the threads that have a bar
+    this.chains = hasChains ? chains : [];
     this.width = width;
     this.scale = scale;
     this.clock = clock;
@@ -61,7 +62,7 @@ export class Bars {
     const name = "Of what each response is made; the table tells the same";
     const rows = [];
     let y = 6;
-    for (const thread of this.threads) y = this.drawThread(thread, y, rows);
+    for (const thread of this.shown) y = this.drawThread(thread, y, rows);
     if (this.chains.length > 0) {
       rows.push(textAt(8, y + 14, this.isNarrow ? CHAINS : `${CHAINS}, from the release of the first thread to the end of the last`, "name"));
       y += 28;
@@ -127,6 +128,11 @@ export class Bars {
     return this.room / Math.max(1, most);
   }
 
+  /** The pixels of the row of a thread. */
+  heightOf(thread) {
+    return ROW + LINE * this.sumLines(thread).length + (this.isNarrow ? 18 : 0);
+  }
+
   /** Draws the row of a thread at this height, and returns that of the next one. */
   drawThread(thread, top, rows) {
     const sums = this.sumLines(thread);
@@ -157,7 +163,7 @@ export class Bars {
     let x = this.left;
     for (const { kind, ticks, words, title } of this.segments(thread)) {
       const width = ticks * pixels;
-      made.append(draw("rect", { class: `part ${kind}`, ...filled(kind), x, y, width: Math.max(0.8, width), height: BAR }, `${thread.name}: ${title}`));
+      made.append(draw("rect", { class: `part ${kind}`, x, y, width: Math.max(0.8, width), height: BAR, ...filled(kind) }, `${thread.name}: ${title}`));
       const fits = [words, words.replace(/^\S+ /, "")].find((one) => one !== "" && widthOf(one, 10) + 8 < width);
       if (fits !== undefined) made.append(textAt(x + width / 2, y + 15, fits, "inside middle"));
       x += width;
@@ -227,9 +233,24 @@ export class Bars {
     for (const [kind, words] of items) {
       const whole = 44 + widthOf(words, 10);
       if (x > this.left && x + whole > this.width) [x, y] = [this.left, y + 20];
-      made.append(draw("rect", { class: kind, ...filled(kind), x, y, width: 20, height: kind === "over" ? 4 : 12 }), textAt(x + 26, y + 10, words, "small"));
+      made.append(draw("rect", { class: kind, x, y, width: 20, height: kind === "over" ? 4 : 12, ...filled(kind) }), textAt(x + 26, y + 10, words, "small"));
       x += whole;
     }
     return { made, height: y - top + 14 };
   }
+}
+
+/** The bars in pictures of about so many pixels of height each, so that each fits on a page; chains stand below the last ones. */
+export function barsInParts(explanation, width, options, most) {
+  const bars = new Bars(explanation, width, options);
+  const parts = [[]];
+  let height = 0;
+  for (const thread of explanation.threads) {
+    height += bars.heightOf(thread);
+    if (height > most && parts.at(-1).length > 0) [parts[parts.length], height] = [[], bars.heightOf(thread)];
+    parts.at(-1).push(thread);
+  }
+  const chains = 28 + ROW * 1.4 * explanation.chains.length;
+  if (explanation.chains.length > 0 && height + chains > most) parts.push([]);
+  return parts.map((shown, place) => ({ shown, bars: new Bars(explanation, width, { ...options, shown, hasChains: place === parts.length - 1 }) }));
 }

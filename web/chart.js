@@ -52,7 +52,7 @@ export class Canvas {
 
   box(kind, x, y, width, height, title = undefined) {
     const hatched = HATCHED.has(kind) ? { fill: fillBy(kind) } : {};
-    this.add("rect", { class: kind, ...hatched, x, y, width: Math.max(0.6, width), height }, title);
+    this.add("rect", { class: kind, x, y, width: Math.max(0.6, width), height, ...hatched }, title);
   }
 
   path(kind, d, title = undefined) {

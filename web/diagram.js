@@ -14,7 +14,9 @@ const TIP = 6; // by which operations stand out of the box
 const TRIGGER = 22; // the width of the mark of a constrained operation
 const MOST_NAME = 30; // characters of a name that are shown
 const MOST_FLOW = 20;
-export const MOST_WHOLE = 150; // objects of a design that is drawn whole where nothing else is asked for
+export const MOST_WHOLE = 150; // objects of a design of which a report has a picture of the whole
+export const MOST_AT_ONCE = 30; // objects of a design that the page draws whole where nothing else is asked for
+export const LEGIBLE = 0.7; // by which a picture is made smaller at most, where all that is written in it has to be read
 
 /** A time as the design writes it. */
 function timeOf({ number, unit }) {

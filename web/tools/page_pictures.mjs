@@ -21,6 +21,7 @@ async function tryDrawn(page) {
   for (const design of drawn) {
     const text = read(design);
     await set(page, { design: text, arrivals: read("until_20.arrivals") });
+    await page.evaluate(`diagram.draw("")`);
     const names = sorted(readOutline(text).objects.map((one) => one.name));
     const told = await page.evaluate(`(() => ({
       drawn: [...document.querySelectorAll("#diagram [data-object]")].map((one) => one.dataset.object),

@@ -14,6 +14,7 @@ import { pathToFileURL } from "node:url";
 import { findBrowser, openBrowser } from "./browser.mjs";
 import { PICTURES, tryBars, tryDiagram, tryLate, tryUnits } from "./page_pictures.mjs";
 import { tryBackground, tryTraces, tryVerbTabs } from "./page_tabs.mjs";
+import { tryFitting, tryLargeDiagram, tryWalk } from "./page_walk.mjs";
 import {
   EXAMPLES, MOST, TOP, answerOf, count, designs, filesOf, hasBackground, js, judge, judgeMark, panelOf, program, read, same, set, shown,
 } from "./page_trial.mjs";
@@ -381,7 +382,7 @@ async function tryKeyboard(page) {
     await page.press("Tab");
     reached.add(await page.evaluate("(({ id, ariaLabel, textContent }) => id || ariaLabel || textContent.trim())(document.activeElement)"));
   }
-  const controls = ["example", "help", "Open a design", "Save the design", "format", "design", "Open arrivals", "arrivals", "tab-timeline",
+  const controls = ["example", "help", "Open a design", "Save the design", "format", "design", "fitting", "Open arrivals", "arrivals", "tab-timeline",
     "panel-timeline", "Earlier", "Later", "Whole", "window-from", "window"];
   for (const name of controls) judge(reached.has(name), `the Tab key reaches ${name}`);
   await page.page("Accessibility.enable");
@@ -546,7 +547,7 @@ try {
   const page = await browser.open(pathToFileURL(file).href);
   await page.until("document.querySelector('#verdict.good')", 120);
   const steps = { tryVerbs, tryCodes, tryMarks, tryTyping, tryFormat, tryBegin, tryPrinted, tryVerbTabs, tryBackground, tryTraces, tryTimeline, tryWindow,
-    tryDiagram, tryBars, tryLate, tryUnits, tryLarge, tryMemory, tryStop, tryKeyboard, tryColours, tryNarrow };
+    tryDiagram, tryLargeDiagram, tryBars, tryLate, tryUnits, tryWalk, tryFitting, tryLarge, tryMemory, tryStop, tryKeyboard, tryColours, tryNarrow };
   const unknown = (only ?? []).filter((name) => steps[name] === undefined);
   if (unknown.length > 0) judge(false, `no such step: ${unknown.join(", ")}`);
   for (const [name, step] of Object.entries(steps)) {

@@ -25,9 +25,10 @@ function timeOf({ number, unit }) {
 
 // ---- What is said of an object ----
 
-/** The response of a thread within its deadline; a thread that is given up has none. */
-function responseOf({ response, deadline }, clock) {
-  return response === null ? `no response, deadline ${clock.time(deadline)}` : `response ${clock.number(response)} of ${clock.time(deadline)}`;
+/** The response of a thread within its deadline; a thread that is given up has none. Beside times with units ticks are told as such. */
+function responseOf({ response, deadline }, clock, hasUnits) {
+  const limit = hasUnits ? clock.span(deadline) : clock.time(deadline);
+  return response === null ? `no response, deadline ${limit}` : `response ${clock.number(response)} of ${limit}`;
 }
 
 /** The lines of small text in the box of an object: its times, and where there are bounds these. */
@@ -41,7 +42,8 @@ export function linesOfObject(object, bounds, clock = TICKS) {
   ];
   const thread = bounds?.threads.find((one) => one.name === object.name);
   const ceiling = bounds?.ceilings.find((one) => one.name === object.name);
-  if (thread !== undefined) lines.push(`priority ${thread.priority} · ${responseOf(thread, clock)}`);
+  const hasUnits = [...object.attributes.values()].some(({ unit }) => unit !== null);
+  if (thread !== undefined) lines.push(`priority ${thread.priority} · ${responseOf(thread, clock, hasUnits)}`);
   else if (ceiling !== undefined) lines.push(`ceiling ${ceiling.ceiling}`);
   if (object.isBackground()) lines.push(object.hasThread ? "client, in the background" : "server, in the background");
   return lines.filter((line) => line !== "");

@@ -213,7 +213,7 @@ export class Report {
     const levels = isWide && parents.length > 1 ? parents.slice(0, MOST_LEVELS) : [];
     const size = whole === null ? [0, 0] : [Number(whole.get("width")), Number(whole.get("height"))];
     const isLarge = levels.length > 0 && (size[0] * FINEST > ACROSS[0] || size[1] * FINEST > ACROSS[1]);
-    const isAcross = size[0] * FINEST * 1.3 > PAGE && !isLarge;
+    const isAcross = size[0] > 1.7 * PAGE && !isLarge;
     const more = levels.length > 0 && parents.length > MOST_LEVELS ? `${parents.length - MOST_LEVELS} more objects with children aren't drawn.` : null;
     const kind = isLarge ? "whole large" : isAcross ? "whole across" : "whole";
     const head = [htmlOf("h2", {}, "HOOD diagram"), ...(fault === undefined ? [] : [htmlOf("p", {}, `What is refused stands in ${fault.name}, which is marked.`)])];

@@ -233,5 +233,5 @@ export async function tryUnits(page) {
 }
 
 /** The tabs with pictures, to be looked at in narrow windows and in both colours. */
-export const PICTURES = [["diagram", "mine_pump.design"], ["diagram", "late_control.design"], ["bounds", "late_control.design"],
+export const PICTURES = [["diagram", "mine_pump.design"], ["diagram", "late_control.design"], ["diagram", "late_platform.design"], ["bounds", "late_control.design"],
   ["timeline", "late_control.design"], ["explain", "late_platform.design"]];

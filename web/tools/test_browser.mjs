@@ -444,6 +444,9 @@ async function tryColours(page) {
     same(await page.evaluate(CONTRAST), [], `texts of too little contrast in ${scheme} colours`);
     await set(page, { design: read("faults/u1.design"), arrivals: read("until_20.arrivals") });
     same(await page.evaluate(CONTRAST), [], `texts of too little contrast in ${scheme} colours, of a refusal`);
+    await set(page, { design: read("mine_pump.design"), arrivals: read("faults/q3.arrivals") });
+    same(await page.evaluate("at('verdict').className"), "part", "arrivals of another design");
+    same(await page.evaluate(CONTRAST), [], `texts of too little contrast in ${scheme} colours, of refused arrivals`);
   }
   for (const scheme of ["light", "dark"]) {
     await page.scheme(scheme);

@@ -9,6 +9,8 @@ const LATE = "late_control.design";
 const LARGE = "late_platform.design";
 const OTHERS = "one_water_alarm.arrivals"; // of the mine pump
 
+const MINE = () => ({ design: read("mine_pump.design"), arrivals: read(OTHERS) });
+
 const click = (page, id) => page.evaluate(`document.getElementById(${js(id)}).click()`);
 
 /** What the verdict tells. */
@@ -61,6 +63,7 @@ export async function tryWalk(page) {
     judge((await verdict(page)).head.startsWith("Every deadline of "), "the mended design passes");
     same(await page.evaluate("state.trace !== null"), true, "and has a run");
   }
+  await set(page, MINE());
   await page.size(1400, 900);
 }
 
@@ -84,6 +87,7 @@ export async function tryFitting(page) {
   await set(page, { design: read(LATE), arrivals: read(OTHERS) });
   const search = await panelOf(page, "search");
   judge(search.text.includes("the tab Bounds") && !search.text.includes("analyse"), `a refused search names the tab: ${search.text}`);
+  await set(page, MINE());
 }
 
 /** A large design is drawn a parent at a time, that of what is marked first, and never smaller than it can be read. */
@@ -93,7 +97,7 @@ export async function tryLargeDiagram(page) {
   for (const width of [1280, 390]) {
     await page.size(width, 900);
     await click(page, "tab-diagram");
-    await set(page, { design: read("mine_pump.design"), arrivals: read(OTHERS) });
+    await set(page, MINE());
     await set(page, { design: read(LARGE), arrivals: read("until_20.arrivals") });
     const drawn = () => page.evaluate(`(() => {
       const [fault, frame] = [document.querySelector("#diagram .fault[data-object]")?.getBoundingClientRect(), diagram.holder.getBoundingClientRect()];
@@ -114,5 +118,6 @@ export async function tryLargeDiagram(page) {
     await page.evaluate(`diagram.draw("platform_sw"); diagram.choose(document.querySelector("#diagram [data-object='fdir']")); document.querySelector("#panel-diagram .way").click()`);
     same(await page.evaluate("[diagram.pick.value, document.activeElement.id]"), ["fdir", "diagram"], "a button draws the children of the object that is chosen");
   }
+  await set(page, MINE());
   await page.size(1400, 900);
 }

@@ -1,9 +1,14 @@
 // Walks through the page as a reader does who has a late design and the arrivals of another one, up to the design that is mended; and tries what
 // such a reader meets on the way: sizes of diagrams, names of tabs, arrivals that fit.
+import { spawnSync } from "node:child_process";
+import { mkdtempSync, rmSync, writeFileSync } from "node:fs";
+import { tmpdir } from "node:os";
+import { join } from "node:path";
+import { pathToFileURL } from "node:url";
 import { LEGIBLE } from "../diagram.js";
 import { readExplanation } from "../explanation.js";
 import { readOutline } from "../outline.js";
-import { answerOf, filesOf, hasBackground, js, judge, panelOf, read, same, set } from "./page_trial.mjs";
+import { EXAMPLES, TOP, answerOf, filesOf, hasBackground, js, judge, panelOf, program, read, same, set } from "./page_trial.mjs";
 
 const LATE = "late_control.design";
 const LARGE = "late_platform.design";
@@ -120,4 +125,35 @@ export async function tryLargeDiagram(page) {
   }
   await set(page, MINE());
   await page.size(1400, 900);
+}
+
+/** The lines of text on each page of paper of a report, or null where `pdftotext` is missing. */
+async function linesOnPaper(browser, room, words) {
+  const { stdout } = spawnSync(join(TOP, "tools/report/report.mjs"), words, { cwd: EXAMPLES, env: { ...process.env, PROGRAM: program }, maxBuffer: 2 ** 26 });
+  writeFileSync(join(room, "report.html"), stdout);
+  const page = await browser.open(pathToFileURL(join(room, "report.html")).href);
+  await page.until(`document.readyState === "complete" && document.querySelector("#inputs pre") !== null`, 60);
+  same(await sharedNames(page), [[], []], `names in the report of ${words}`);
+  const { data } = await page.page("Page.printToPDF", { preferCSSPageSize: true, printBackground: true });
+  writeFileSync(join(room, "report.pdf"), Buffer.from(data, "base64"));
+  const told = spawnSync("pdftotext", ["-layout", join(room, "report.pdf"), "-"], { maxBuffer: 2 ** 26 });
+  if (told.error) return null;
+  return told.stdout.toString().split("\f").slice(0, -1).map((one) => one.split("\n").map((line) => line.trim()).filter((line) => line !== ""));
+}
+
+/** No page of a printed report but the last has a few lines only, and none ends with the head of what is on the next one. */
+export async function tryPaper(browser) {
+  const room = mkdtempSync(join(tmpdir(), "paper-"));
+  for (const words of [["--brief", "mine_pump.design", "blocked_sensor.arrivals"], ["--brief", LATE], ["--brief", LARGE]]) {
+    const pages = await linesOnPaper(browser, room, words);
+    if (pages === null) { console.log("there is no pdftotext, so what is on the pages of a printed report isn't looked at"); break; }
+    pages.forEach((lines, place) => {
+      const isLast = place === pages.length - 1;
+      judge(isLast || lines.length > 8, `${words}: page ${place + 1} of ${pages.length} has ${js(lines)}`);
+      judge(isLast || !/^(What is proved|HOOD diagram|Objects|Bounds|Of what each|Ceilings|Margins|What to change|A run under|Program and)|; times in (ticks|ms)$/
+        .test(lines.at(-1)), `${words}: page ${place + 1} ends with a head: ${lines.at(-1)}`);
+    });
+    judge(pages.length > 4, `${words}: ${pages.length} pages`);
+  }
+  rmSync(room, { recursive: true, force: true });
 }

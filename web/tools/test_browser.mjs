@@ -14,7 +14,7 @@ import { pathToFileURL } from "node:url";
 import { findBrowser, openBrowser } from "./browser.mjs";
 import { PICTURES, tryBars, tryDiagram, tryLate, tryUnits } from "./page_pictures.mjs";
 import { tryBackground, tryTraces, tryVerbTabs } from "./page_tabs.mjs";
-import { tryFitting, tryLargeDiagram, tryWalk } from "./page_walk.mjs";
+import { tryFitting, tryLargeDiagram, tryPaper, tryWalk } from "./page_walk.mjs";
 import {
   EXAMPLES, MOST, TOP, answerOf, count, designs, filesOf, hasBackground, js, judge, judgeMark, panelOf, program, read, same, set, shown,
 } from "./page_trial.mjs";
@@ -551,11 +551,12 @@ try {
   await page.until("document.querySelector('#verdict.good')", 120);
   const steps = { tryVerbs, tryCodes, tryMarks, tryTyping, tryFormat, tryBegin, tryPrinted, tryVerbTabs, tryBackground, tryTraces, tryTimeline, tryWindow,
     tryDiagram, tryLargeDiagram, tryBars, tryLate, tryUnits, tryWalk, tryFitting, tryLarge, tryMemory, tryStop, tryKeyboard, tryColours, tryNarrow };
-  const unknown = (only ?? []).filter((name) => steps[name] === undefined);
+  const unknown = (only ?? []).filter((name) => steps[name] === undefined && name !== "tryPaper");
   if (unknown.length > 0) judge(false, `no such step: ${unknown.join(", ")}`);
   for (const [name, step] of Object.entries(steps)) {
     if (only === null || only.includes(name)) await step(page).catch((fault) => judge(false, `${name}: ${fault.message}`));
   }
+  if (only === null || only.includes("tryPaper")) await tryPaper(browser).catch((fault) => judge(false, `tryPaper: ${fault.message}`));
   await trySaves(browser, page);
   await tryQuiet(page);
   if (pictures !== null) await takePictures(page);

@@ -13,7 +13,7 @@ const NUMBERS = 150;
 const CHAINS = "Chains of requests";
 const ABOVE = "a thread of greater priority, in the colour of its own cost";
 
-/** The fill of a part whose colour no style tells: that of blocking is hatched. */
+/** The fill of a part whose colour no style has: that of blocking is hatched. */
 function filled(kind) {
   return /\bblocked$/.test(kind) ? { fill: fillBy("blocked") } : {};
 }

@@ -33,7 +33,7 @@ export class Clock {
     return String(this.microseconds === null ? ticks : (ticks * this.microseconds) / 1000);
   }
 
-  /** The ticks of a time as it is told, rounded. */
+  /** The ticks of a time as it is shown, rounded. */
   ticks(/** @type {number} */ told) {
     return Math.round(this.microseconds === null ? told : (told * 1000) / this.microseconds);
   }

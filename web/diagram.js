@@ -25,7 +25,7 @@ function timeOf({ number, unit }) {
 
 // ---- What is said of an object ----
 
-/** The response of a thread within its deadline; a thread that is given up has none. Beside times with units ticks are told as such. */
+/** The response of a thread within its deadline; a thread that is given up has none. Beside times with units ticks are named. */
 function responseOf({ response, deadline }, clock, hasUnits) {
   const limit = hasUnits ? clock.span(deadline) : clock.time(deadline);
   return response === null ? `no response, deadline ${limit}` : `response ${clock.number(response)} of ${limit}`;

@@ -17,7 +17,7 @@ function isLate(thread) {
   return slack === null || slack < 0 || spare < 0;
 }
 
-/** What a design that is late is told by: how long the thread takes that its refusal names, and how many more are late. Null for other refusals. */
+/** The headline of a late design: how long the thread takes that its refusal names, and how many more are late. Null for other refusals. */
 function lateHead(line, { threads }, clock) {
   const [, code, name] = /^refused (U[12]) (\S+) /.exec(line) ?? [];
   const thread = threads.find((one) => one.name === name);

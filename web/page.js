@@ -410,7 +410,7 @@ function showTimeline() {
   state.isOther = false;
 }
 
-/** Why there is no simulation: in words, or the line of a refusal, told in plain words, of arrivals with some that fit. */
+/** Why there is no simulation: in words, or the line of a refusal in plain words, of arrivals with some that fit. */
 function whyWords(why) {
   if (!why.startsWith("refused ")) return `${why.replace(/\.$/, "")}.`;
   const texts = textsNow();

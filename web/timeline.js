@@ -6,7 +6,7 @@ const MOST_LINES = 1500000; // of a trace, of which a timeline is made
 const FIRST_EVENTS = 90;
 const LIST_LINES = 5000;
 
-/** What is told below a window in which too much happens, where ends are judged by a bound or a deadline. */
+/** The words below a window in which too much happens, where ends are judged by a bound or a deadline. */
 function farWords(limit) {
   return `Too much happens here to be drawn: each height is the greatest response of what is released there, before the ${limit}. Go closer to see who runs.`;
 }

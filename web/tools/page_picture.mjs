@@ -3,7 +3,7 @@
 //
 //     page_picture.mjs PAGE.html DESIGN ARRIVALS FROM TO OUT.png
 //
-// The window is from tick FROM to TO. Exit status 2 tells that there is no browser, and so no picture.
+// The window is from tick FROM to TO. Exit status 2 means that there is no browser, and so no picture.
 import { readFileSync } from "node:fs";
 import { resolve } from "node:path";
 import { pathToFileURL } from "node:url";

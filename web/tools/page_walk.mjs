@@ -18,11 +18,11 @@ const MINE = () => ({ design: read("mine_pump.design"), arrivals: read(OTHERS) }
 
 const click = (page, id) => page.evaluate(`document.getElementById(${js(id)}).click()`);
 
-/** What the verdict tells. */
+/** What the verdict says. */
 const verdict = (page) => page.evaluate(`(() => { const box = at("verdict"); return { kind: box.className, head: box.querySelector("strong").textContent,
   hints: [...box.querySelectorAll(".hint")].map((one) => one.textContent).join(" "), words: [...box.querySelectorAll(".word")].map((one) => one.textContent) }; })()`);
 
-/** Presses the button that writes arrivals that fit, and waits for what the page tells of them. */
+/** Presses the button that writes arrivals that fit, and waits for what the page says of them. */
 async function fit(page) {
   await page.evaluate(`(async () => { at("fitting").click(); await again(); })()`);
 }
@@ -72,7 +72,7 @@ export async function tryWalk(page) {
   await page.size(1400, 900);
 }
 
-/** Arrivals of another design leave the verdict on the design as it is, and those that fit are told and taken. */
+/** Arrivals of another design leave the verdict on the design as it is, and those that fit are shown and taken. */
 export async function tryFitting(page) {
   let count = 0;
   for (const design of filesOf("", ".design")) {

@@ -46,7 +46,7 @@ function explainedTable(explanation, clock) {
   return table;
 }
 
-/** What each line of a thread tells, in words: who starts it, what blocks it, what comes in between. */
+/** What each line of a thread says, in words: who starts it, what blocks it, what comes in between. */
 function explainedList({ threads }, clock) {
   const items = threads.map((one) => {
     const parts = [];

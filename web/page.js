@@ -207,7 +207,7 @@ function showMarks() {
   for (const [kind, editor] of Object.entries(editors)) editor.show(mark?.kind === kind ? mark : null);
 }
 
-/** Tells what is refused of a design; of a late one what `explain` says of its response. */
+/** Shows what is refused of a design; of a late one what `explain` says of its response. */
 function showRefusal({ err }, texts, explanation = null) {
   // Where memory is wanted before the run begins, no line tells it.
   const line = err.trimEnd() || "no memory";
@@ -217,7 +217,7 @@ function showRefusal({ err }, texts, explanation = null) {
   tell("bad", [late ?? head, withTabs(hint)], line, ...goButton(state.mark));
 }
 
-/** Tells that the design passes, and what is refused of the arrivals, with some that fit. */
+/** Shows that the design passes, and what is refused of the arrivals, with some that fit. */
 function showRefusedArrivals({ err }, texts, met) {
   const line = err.trimEnd() || "no memory";
   state.mark = markOf(line, texts);

@@ -36,7 +36,7 @@ class Timeline {
     this.style = style;
     this.trace = null;
     this.clock = TICKS;
-    this.simulated = null; // of a late design: its deadlines, and the words that tell what this is
+    this.simulated = null; // of a late design: its deadlines, and the words that say what this is
     this.drawn = draw("svg", {}); // of the window that is shown
     this.from = 0;
     this.to = 1;

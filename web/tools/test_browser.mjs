@@ -376,6 +376,7 @@ async function tryStop(page) {
 
 /** By the Tab key alone every control is reached, and each has a name. */
 async function tryKeyboard(page) {
+  await set(page, { design: read("mine_pump.design"), arrivals: read("one_water_alarm.arrivals") });
   await page.evaluate("(() => { document.getElementById('tab-timeline').click(); document.activeElement.blur(); document.body.focus(); })()");
   const reached = new Set();
   for (let turn = 0; turn < 60; turn++) {

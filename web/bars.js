@@ -2,7 +2,7 @@
 // chains of requests, as bars behind one another.
 import { TICKS } from "./clock.js";
 import { chainBounds, partsOf, slackOf, spareOf, termsOf } from "./explanation.js";
-import { draw, group, short, textAt, widthOf } from "./markup.js";
+import { draw, fillBy, group, short, textAt, widthOf } from "./markup.js";
 
 const HUES = 12; // of threads, as in bars.css
 const ROW = 44; // pixels of height, without the lines of the sum
@@ -12,6 +12,11 @@ const NAMES = 170; // beside the bars
 const NUMBERS = 150;
 const CHAINS = "Chains of requests";
 const ABOVE = "a thread of greater priority, in the colour of its own cost";
+
+/** The fill of a part whose colour no style has: that of blocking is hatched. */
+function filled(kind) {
+  return /\bblocked$/.test(kind) ? { fill: fillBy("blocked") } : {};
+}
 
 /** A share as a percentage without digits, and `under 1 %` where that would be 0. */
 function shareOf(ticks, whole) {
@@ -37,9 +42,10 @@ function givenUp({ beyond, behind }, clock) {
  * on past the stroke of its deadline.
  */
 export class Bars {
-  constructor({ threads, chains = [] }, width, { scale = "deadline", clock = TICKS } = {}) {
+  constructor({ threads, chains = [] }, width, { scale = "deadline", clock = TICKS, shown = threads, hasChains = true } = {}) {
     this.threads = threads;
-    this.chains = chains;
+    this.shown = shown; // those of the threads that have a bar
+    this.chains = hasChains ? chains : [];
     this.width = width;
     this.scale = scale;
     this.clock = clock;
@@ -56,7 +62,7 @@ export class Bars {
     const name = "Of what each response is made; the table tells the same";
     const rows = [];
     let y = 6;
-    for (const thread of this.threads) y = this.drawThread(thread, y, rows);
+    for (const thread of this.shown) y = this.drawThread(thread, y, rows);
     if (this.chains.length > 0) {
       rows.push(textAt(8, y + 14, this.isNarrow ? CHAINS : `${CHAINS}, from the release of the first thread to the end of the last`, "name"));
       y += 28;
@@ -71,7 +77,7 @@ export class Bars {
   patterns() {
     const made = (id, stripe) => draw("pattern", { id, width: 5, height: 5, patternUnits: "userSpaceOnUse", patternTransform: "rotate(45)" }).append(
       draw("rect", { class: "blocked-ground", width: 5, height: 5 }), draw("rect", { class: stripe, width: 2.5, height: 5 }));
-    return draw("defs", {}).append(made("bars-blocked", "blocked-stripe"));
+    return draw("defs", {}).append(made("blocked", "blocked-stripe"));
   }
 
   /** What a bar consists of, from the left: a kind, ticks, words and a title each. */
@@ -122,6 +128,11 @@ export class Bars {
     return this.room / Math.max(1, most);
   }
 
+  /** The pixels of the row of a thread. */
+  heightOf(thread) {
+    return ROW + LINE * this.sumLines(thread).length + (this.isNarrow ? 18 : 0);
+  }
+
   /** Draws the row of a thread at this height, and returns that of the next one. */
   drawThread(thread, top, rows) {
     const sums = this.sumLines(thread);
@@ -152,7 +163,7 @@ export class Bars {
     let x = this.left;
     for (const { kind, ticks, words, title } of this.segments(thread)) {
       const width = ticks * pixels;
-      made.append(draw("rect", { class: `part ${kind}`, x, y, width: Math.max(0.8, width), height: BAR }, `${thread.name}: ${title}`));
+      made.append(draw("rect", { class: `part ${kind}`, x, y, width: Math.max(0.8, width), height: BAR, ...filled(kind) }, `${thread.name}: ${title}`));
       const fits = [words, words.replace(/^\S+ /, "")].find((one) => one !== "" && widthOf(one, 10) + 8 < width);
       if (fits !== undefined) made.append(textAt(x + width / 2, y + 15, fits, "inside middle"));
       x += width;
@@ -222,9 +233,24 @@ export class Bars {
     for (const [kind, words] of items) {
       const whole = 44 + widthOf(words, 10);
       if (x > this.left && x + whole > this.width) [x, y] = [this.left, y + 20];
-      made.append(draw("rect", { class: kind, x, y, width: 20, height: kind === "over" ? 4 : 12 }), textAt(x + 26, y + 10, words, "small"));
+      made.append(draw("rect", { class: kind, x, y, width: 20, height: kind === "over" ? 4 : 12, ...filled(kind) }), textAt(x + 26, y + 10, words, "small"));
       x += whole;
     }
     return { made, height: y - top + 14 };
   }
+}
+
+/** The bars in pictures of about so many pixels of height each, so that each fits on a page; chains stand below the last ones. */
+export function barsInParts(explanation, width, options, most) {
+  const bars = new Bars(explanation, width, options);
+  const parts = [[]];
+  let height = 0;
+  for (const thread of explanation.threads) {
+    height += bars.heightOf(thread);
+    if (height > most && parts.at(-1).length > 0) [parts[parts.length], height] = [[], bars.heightOf(thread)];
+    parts.at(-1).push(thread);
+  }
+  const chains = 28 + ROW * 1.4 * explanation.chains.length;
+  if (explanation.chains.length > 0 && height + chains > most) parts.push([]);
+  return parts.map((shown, place) => ({ shown, bars: new Bars(explanation, width, { ...options, shown, hasChains: place === parts.length - 1 }) }));
 }

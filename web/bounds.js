@@ -24,7 +24,7 @@ function cellOf(text, attributes = {}) {
 
 /** A bar of the cost, where it is known, and the response within the deadline. */
 function barOf({ name, cost = undefined, response, deadline }, clock) {
-  const width = 120;
+  const width = 76;
   const told = `${cost === undefined ? "" : `cost ${clock.number(cost)} and `}response ${clock.number(response)} of deadline ${clock.time(deadline)}`;
   const part = (kind, ticks) =>
     draw("rect", { class: kind, x: 0, y: 2, width: Math.max(1, width * Math.min(1, ticks / deadline)), height: 10, rx: 2 });

@@ -1,6 +1,6 @@
 // Draws a run as SVG, in a window of its time. Who runs is told by traces.js.
 import { TICKS } from "./clock.js";
-import { draw, short, textAt } from "./markup.js";
+import { draw, fillBy, short, textAt } from "./markup.js";
 
 const COLOURS = 12; // of objects, as in chart.css
 
@@ -20,12 +20,20 @@ function stripes(id, step, ground) {
   return made.append(draw("rect", { width: 2.5, height: step, class: `${id}-stripe` }));
 }
 
-/** A picture of so many pixels. With a name it has the patterns too; without one it is a mark beside a chart, which has them. */
+const HATCHED = new Map([["blocked", () => stripes("blocked", 5, "blocked-ground")], ["doubt", () => stripes("doubt", 6, null)]]);
+
+/** A picture of so many pixels, with the patterns of which it has marks. Without a name it is a mark beside a chart. */
 export function pictureOf(width, height, name, ...inside) {
   const told = name === null ? { "aria-hidden": "true" } : { role: "img", "aria-label": name };
   const made = draw("svg", { width, height, viewBox: `0 0 ${width} ${height}`, class: "timeline", ...told });
-  if (name !== null) made.append(draw("defs", {}).append(stripes("blocked", 5, "blocked-ground"), stripes("doubt", 6, null)));
+  const used = [...HATCHED].filter(([kind]) => inside.some((mark) => isFilledBy(mark, kind))).map(([, pattern]) => pattern());
+  if (used.length > 0) made.append(draw("defs", {}).append(...used));
   return made.append(draw("rect", { class: "paper", width, height }), ...inside);
+}
+
+/** Whether a mark, or one of those in it, has this pattern. */
+function isFilledBy(mark, kind) {
+  return mark.get("fill") === fillBy(kind) || mark.children.some((child) => typeof child !== "string" && isFilledBy(child, kind));
 }
 
 /** The marks of a picture, in the order in which they are drawn. */
@@ -43,7 +51,8 @@ export class Canvas {
   }
 
   box(kind, x, y, width, height, title = undefined) {
-    this.add("rect", { class: kind, x, y, width: Math.max(0.6, width), height }, title);
+    const hatched = HATCHED.has(kind) ? { fill: fillBy(kind) } : {};
+    this.add("rect", { class: kind, x, y, width: Math.max(0.6, width), height, ...hatched }, title);
   }
 
   path(kind, d, title = undefined) {
@@ -127,7 +136,7 @@ class Frame {
       this.canvas.text(8, y - 20, short(task.name, most), "name");
       const span = task.period === null || most < 20 ? "" : `, ${task.isCyclic ? "period" : "separation"} ${this.clock.time(task.period)}`;
       this.canvas.text(8, y - 7, `priority ${task.priority}${span}`, "small");
-      const known = [["deadline", task.deadline], ["bound", task.bound]].filter(([, ticks]) => ticks !== null);
+      const known = [["deadline", task.deadline], ...(task.limit === "bound" ? [["bound", task.bound]] : [])].filter(([, ticks]) => ticks !== null);
       const limits = most < 20 ? known.slice(-1) : known;
       this.canvas.text(8, y + 5, limits.map(([what, ticks]) => `${what} ${this.clock.time(ticks)}`).join(", "), "small");
     }
@@ -185,13 +194,13 @@ export class Chart extends Frame {
 
   drawBounds() {
     for (const one of this.run.activations) {
-      const { bound, name } = one.task;
+      const { bound, limit: word, name } = one.task;
       const limit = one.release + bound;
       const span = bound === null ? null : this.span(one.release, limit);
       if (span === null) continue;
       const y = this.base.get(name);
       const isKept = (one.end ?? this.run.trace.last) <= limit;
-      const title = `${name} released at ${this.clock.time(one.release)}, bound ${this.clock.time(limit)}`;
+      const title = `${name} released at ${this.clock.time(one.release)}, ${word} ${this.clock.time(limit)}`;
       this.canvas.box(isKept ? "kept" : "late", span[0], y - 28, span[1], 28, title);
       if (this.isHere(limit)) this.canvas.path(isKept ? "kept-end" : "late-end", `M${this.x(limit)} ${y}v-28`, title);
     }
@@ -280,10 +289,10 @@ export class Chart extends Frame {
     const written = new Map(); // name of a task to where its last response time stands
     for (const one of this.run.activations) {
       if (one.end === null || !this.isHere(one.end)) continue;
-      const { name, bound } = one.task;
+      const { name, bound, limit: word } = one.task;
       const [x, y, response] = [this.x(one.end), this.base.get(name), this.clock.number(one.response())];
       const { clock } = this;
-      const limit = bound === null ? "" : `, bound ${clock.time(bound)}`;
+      const limit = bound === null ? "" : `, ${word} ${clock.time(bound)}`;
       const title = `${clock.time(one.end)} end ${name} used ${clock.time(one.used)}, response ${clock.time(one.response())}${limit}`;
       this.canvas.add("circle", { class: "end", cx: x, cy: y, r: 3 }, title);
       if (x - (written.get(name) ?? -99) <= 7 * response.length + 4) continue;
@@ -350,7 +359,7 @@ export class Heights extends Frame {
   drawLane(task, columns) {
     const base = this.base.get(task.name);
     const full = task.bound ?? Math.max(1, ...columns.values());
-    this.canvas.box("kept", this.left, base - 28, this.x(this.end) - this.left, 28, `the bound of ${task.name}, ${this.clock.time(full)}`);
+    this.canvas.box("kept", this.left, base - 28, this.x(this.end) - this.left, 28, `the ${task.limit} of ${task.name}, ${this.clock.time(full)}`);
     for (const [column, response] of columns) {
       const height = Math.min(36, (28 * response) / full);
       const title = `${task.name}: greatest response ${this.clock.time(response)} of at most ${this.clock.time(full)}`;

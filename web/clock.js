@@ -15,6 +15,12 @@ export function microsecondsOf(/** @type {string} */ design) {
   return head === null ? null : Number(head[1].replaceAll("_", "")) * MICROSECONDS[/** @type {"us"|"ms"|"s"} */ (head[2].toLowerCase())];
 }
 
+/** The ticks of a time as a design writes it, with its unit or none, where a tick has so many microseconds. */
+export function ticksOf(/** @type {{ number: number, unit: string|null }} */ { number, unit }, /** @type {number|null} */ microseconds) {
+  const known = unit === null ? undefined : MICROSECONDS[/** @type {"us"|"ms"|"s"} */ (unit)];
+  return known === undefined || microseconds === null ? number : (number * known) / microseconds;
+}
+
 /** Tells times as ticks, or with the microseconds of a tick as milliseconds. */
 export class Clock {
   constructor(/** @type {number|null} */ microseconds = null) {
@@ -25,6 +31,11 @@ export class Clock {
   /** A time without its unit. */
   number(/** @type {number} */ ticks) {
     return String(this.microseconds === null ? ticks : (ticks * this.microseconds) / 1000);
+  }
+
+  /** The ticks of a time as it is shown, rounded. */
+  ticks(/** @type {number} */ told) {
+    return Math.round(this.microseconds === null ? told : (told * 1000) / this.microseconds);
   }
 
   /** A time with its unit where that isn't ticks. */

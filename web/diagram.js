@@ -14,7 +14,9 @@ const TIP = 6; // by which operations stand out of the box
 const TRIGGER = 22; // the width of the mark of a constrained operation
 const MOST_NAME = 30; // characters of a name that are shown
 const MOST_FLOW = 20;
-export const MOST_WHOLE = 150; // objects of a design that is drawn whole where nothing else is asked for
+export const MOST_WHOLE = 150; // objects of a design of which a report has a picture of the whole
+export const MOST_AT_ONCE = 30; // objects of a design that the page draws whole where nothing else is asked for
+export const LEGIBLE = 0.7; // by which a picture is made smaller at most, where all that is written in it has to be read
 
 /** A time as the design writes it. */
 function timeOf({ number, unit }) {
@@ -23,9 +25,10 @@ function timeOf({ number, unit }) {
 
 // ---- What is said of an object ----
 
-/** The response of a thread within its deadline; a thread that is given up has none. */
-function responseOf({ response, deadline }, clock) {
-  return response === null ? `no response, deadline ${clock.time(deadline)}` : `response ${clock.number(response)} of ${clock.time(deadline)}`;
+/** The response of a thread within its deadline; a thread that is given up has none. Beside times with units ticks are named. */
+function responseOf({ response, deadline }, clock, hasUnits) {
+  const limit = hasUnits ? clock.span(deadline) : clock.time(deadline);
+  return response === null ? `no response, deadline ${limit}` : `response ${clock.number(response)} of ${limit}`;
 }
 
 /** The lines of small text in the box of an object: its times, and where there are bounds these. */
@@ -39,7 +42,8 @@ export function linesOfObject(object, bounds, clock = TICKS) {
   ];
   const thread = bounds?.threads.find((one) => one.name === object.name);
   const ceiling = bounds?.ceilings.find((one) => one.name === object.name);
-  if (thread !== undefined) lines.push(`priority ${thread.priority} · ${responseOf(thread, clock)}`);
+  const hasUnits = [...object.attributes.values()].some(({ unit }) => unit !== null);
+  if (thread !== undefined) lines.push(`priority ${thread.priority} · ${responseOf(thread, clock, hasUnits)}`);
   else if (ceiling !== undefined) lines.push(`ceiling ${ceiling.ceiling}`);
   if (object.isBackground()) lines.push(object.hasThread ? "client, in the background" : "server, in the background");
   return lines.filter((line) => line !== "");

@@ -46,6 +46,8 @@ class DiagramTab {
     this.scale = 1;
     this.isFit = true;
     this.name = null; // of the object that is chosen
+    this.picked = null; // what was asked to be drawn, of the design of this name
+    this.designName = null;
     this.design = null;
     this.isDrawn = false;
     this.bounds = this.drawn = this.picture = null;
@@ -57,7 +59,7 @@ class DiagramTab {
 
   build() {
     this.pick = make("select", { "aria-label": "What is drawn" });
-    this.pick.addEventListener("change", () => { this.isFit = true; this.drawAgain(); });
+    this.pick.addEventListener("change", () => this.draw(this.pick.value));
     const button = (name, action) => {
       const made = make("button", { type: "button" }, name);
       made.addEventListener("click", action);
@@ -68,7 +70,7 @@ class DiagramTab {
     this.wide = button("Whole window", () => this.widen(!document.body.classList.contains("widened")));
     this.wide.setAttribute("aria-pressed", "false");
     const save = saveButton("diagram.svg", () => (this.drawn === null ? "" : asFile(this.drawn, this.style)));
-    const name = "HOOD diagram. The arrow keys move it, plus and minus change its size, 0 shows all; Tab goes from object to object.";
+    const name = "HOOD diagram. The arrow keys move it, plus and minus change its size, 0 fits it into its frame; Tab goes from object to object.";
     this.holder = make("div", { class: "holder diagram-holder", tabindex: "0", role: "group", id: "diagram", "aria-label": name });
     this.facts = make("div", { class: "facts", role: "status", "aria-live": "polite" });
     this.note = make("p", { class: "note" });
@@ -143,11 +145,29 @@ class DiagramTab {
     this.picture.setAttribute("height", String(Math.round(height * scale)));
   }
 
+  /** Shows all of it, or where that is too small to be read, the part with what is marked, in a size that can be. */
   fit() {
     if (this.picture === null) return;
     const [width, height] = this.sizes();
     const room = [this.holder.clientWidth, Math.max(240, this.holder.clientHeight)];
-    this.setScale(Math.min(1, Math.max(LEAST_SCALE, Math.min(room[0] / width, room[1] / height))));
+    const whole = Math.min(room[0] / width, room[1] / height);
+    this.setScale(Math.min(1, Math.max(LEGIBLE, whole)));
+    this.holder.scrollTo(0, 0);
+    if (whole < LEGIBLE) this.goTo(this.holder.querySelector(".fault[data-object]"));
+  }
+
+  /** Brings an object into the middle of the frame, as far as that moves. */
+  goTo(element) {
+    if (element === null) return;
+    const [box, frame] = [element.getBoundingClientRect(), this.holder.getBoundingClientRect()];
+    this.holder.scrollBy(box.left + box.width / 2 - frame.left - frame.width / 2, box.top + box.height / 2 - frame.top - frame.height / 2);
+  }
+
+  /** Draws the whole design, or the object of this name with its children. */
+  draw(name) {
+    this.pick.value = this.picked = name;
+    this.isFit = true;
+    this.drawAgain();
   }
 
   /** Gives the diagram the whole window, without the texts, or takes it back. */
@@ -174,13 +194,20 @@ class DiagramTab {
 
   /** The whole, and each object with children. */
   fillPick() {
-    const before = this.pick.value;
+    if (this.design.name !== this.designName) this.picked = null;
+    this.designName = this.design.name;
     const parents = this.design.objects.filter((one) => one.hasChildren());
     const option = (value, words) => make("option", { value }, words);
     this.pick.replaceChildren(option("", "the whole design"), ...parents.map((one) => option(one.name, `${one.name} with its children`)));
-    const isLarge = this.design.objects.length > MOST_WHOLE;
-    const first = isLarge ? parents[0]?.name ?? "" : "";
-    this.pick.value = parents.some((one) => one.name === before) || (before === "" && !isLarge) ? before : first;
+    const isKept = this.picked === "" || parents.some((one) => one.name === this.picked);
+    this.pick.value = isKept ? this.picked : this.firstDrawn(parents);
+  }
+
+  /** What is drawn at first: the whole, or of a large design the parent of what is marked, or of all. */
+  firstDrawn(parents) {
+    if (this.design.objects.length <= MOST_AT_ONCE) return "";
+    const marked = this.design.objects.find((one) => this.faults.includes(one.name));
+    return (marked?.parent ?? parents[0])?.name ?? "";
   }
 
   render() {
@@ -210,7 +237,8 @@ class DiagramTab {
   }
 
   words() {
-    const told = "Choose an object to see its text and its bounds; drag to move; a double click, or Ctrl and the wheel, change the size.";
+    const part = this.pick.value === "" ? "" : "One parent is drawn; the list above has the others and the whole design. ";
+    const told = `${part}Choose an object to see its text and its bounds; drag to move; a double click, or Ctrl and the wheel, change the size.`;
     if (this.late.length > 0) return `Marked are the threads that are late: ${this.late.join(", ")}. ${told}`;
     if (this.refused !== null) return `What is refused stands in ${this.refused}, which is marked. ${told}`;
     return this.bounds === null ? `The design is refused, so there are no bounds. ${told}` : told;
@@ -235,7 +263,20 @@ class DiagramTab {
     this.holder.querySelector(`[data-object="${object.name}"]`)?.classList.add("chosen");
     const facts = factsOf(this.design, object, this.bounds, this.clock);
     const rows = facts.map(([term, words]) => make("div", {}, make("dt", {}, term), make("dd", {}, words)));
-    this.facts.replaceChildren(make("h3", {}, `${object.name}, ${object.kind.toUpperCase()}`), make("dl", {}, ...rows));
+    this.facts.replaceChildren(make("h3", {}, `${object.name}, ${object.kind.toUpperCase()}`), make("dl", {}, ...rows), ...this.waysFrom(object));
+  }
+
+  /** Buttons that draw a parent with its children, or the parent of an object. */
+  waysFrom(object) {
+    const ways = [];
+    if (object.hasChildren() && this.pick.value !== object.name) ways.push([`Draw ${object.name} with its children`, object.name]);
+    const { parent } = object;
+    if (parent !== null && this.pick.value !== "" && this.pick.value !== parent.name) ways.push([`Draw ${parent.name}, in which it stands`, parent.name]);
+    return ways.map(([words, name]) => {
+      const button = make("button", { type: "button", class: "way" }, words);
+      button.addEventListener("click", () => { this.draw(name); this.holder.focus(); });
+      return button;
+    });
   }
 
   /** Shows who uses an object and whom it uses, or all who use an operation. */

@@ -17,6 +17,22 @@ function isLate(thread) {
   return slack === null || slack < 0 || spare < 0;
 }
 
+/** The headline of a late design: how long the thread takes that its refusal names, and how many more are late. Null for other refusals. */
+function lateHead(line, { threads }, clock) {
+  const [, code, name] = /^refused (U[12]) (\S+) /.exec(line) ?? [];
+  const thread = threads.find((one) => one.name === name);
+  if (thread === undefined || !isLate(thread)) return null;
+  const { response, deadline, jitter, period } = thread;
+  const limit = code === "U1" ? `its deadline of ${clock.span(deadline)}` : `its next release, ${clock.span(period)} after the one before`;
+  const others = threads.filter((one) => one !== thread && isLate(one)).length;
+  const more = others === 0 ? "" : others === 1 ? " One more thread is over its limits." : ` ${others} more threads are over their limits.`;
+  if (response === null) return `The response of ${name} is over ten times ${limit}, if there is one at all.${more}`;
+  const isByJitter = jitter > 0 && code === "U2";
+  const takes = `The response of ${name} is up to ${clock.span(response)}${isByJitter ? ` behind a jitter of up to ${clock.span(jitter)}` : ""}`;
+  const over = code === "U1" ? response - deadline : jitter + response - period;
+  return `${takes}, which is ${clock.span(over)} past ${limit}.${more}`;
+}
+
 const SPARE_HEADS = ["Thread", "Priority", "Period", "Deadline", "Jitter", "Cost", "Blocking", "Response", "Slack", "Spare"];
 const SPARE = "Slack is what is left to the deadline, and spare what is left to the next release.";
 
@@ -30,7 +46,7 @@ function explainedTable(explanation, clock) {
   return table;
 }
 
-/** What each line of a thread tells, in words: who starts it, what blocks it, what comes in between. */
+/** What each line of a thread says, in words: who starts it, what blocks it, what comes in between. */
 function explainedList({ threads }, clock) {
   const items = threads.map((one) => {
     const parts = [];
@@ -63,7 +79,7 @@ function explainedBars(explanation, clock, room) {
   const show = () => {
     const inner = room.clientWidth - 30;
     const width = inner > 0 && inner < 560 ? Math.max(320, inner) : Math.max(BARS_WIDTH, inner);
-    drawn = new Bars(explanation, width, { scale: pick.value, clock }).draw();
+    drawn = withNames(new Bars(explanation, width, { scale: pick.value, clock }).draw(), room.id);
     holder.innerHTML = drawn.write();
   };
   pick.addEventListener("change", show);

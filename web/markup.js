@@ -80,6 +80,21 @@ export function textAt(/** @type {number} */ x, /** @type {number} */ y, /** @ty
   return draw("text", kind === "" ? { x, y } : { x, y, class: kind }).append(String(text));
 }
 
+/** A fill by a pattern of the same picture. */
+export function fillBy(/** @type {string} */ id) {
+  return `url(#${id})`;
+}
+
+/** Gives each pattern of a picture a name that begins with this word, since in a page with more pictures no two may share one. */
+export function withNames(/** @type {Element} */ picture, /** @type {string} */ word) {
+  const id = picture.get("id");
+  if (id !== undefined) picture.set("id", `${word}-${id}`);
+  const used = /^url\(#(.*)\)$/.exec(picture.get("fill") ?? "")?.[1];
+  if (used !== undefined) picture.set("fill", fillBy(`${word}-${used}`));
+  for (const child of picture.children) if (child instanceof Element) withNames(child, word);
+  return picture;
+}
+
 /** A picture as a file that needs nothing else, with its style. */
 export function asFile(/** @type {Element} */ picture, /** @type {string} */ style) {
   const file = new Element("svg", true).set("xmlns", "http://www.w3.org/2000/svg");

@@ -51,7 +51,7 @@ for (const one of verbTabs) {
 const panels = allOf("[role=tabpanel]");
 const tabs = allOf("[role=tab]");
 const state = { bounds: null, boundsText: "", tick: null, ada: "", trace: null, isOther: true, isBackground: false, mark: null, late: null,
-  design: "", clock: TICKS };
+  design: "", clock: TICKS, refusal: null };
 
 // ---- Runs of all that is shown ----
 
@@ -80,7 +80,7 @@ const NO_ANSWERS = {};
 
 /** Runs all again soon, when the texts have not changed for a moment. */
 function later() {
-  state.mark = null;
+  state.mark = state.refusal = null;
   for (const panel of panels) answerPart(panel).classList.add("stale");
   clearTimeout(timer);
   timer = setTimeout(again, WAIT);
@@ -153,7 +153,7 @@ async function runOf({ design, arrivals }) {
 async function lateAnswersOf({ design, arrivals }, line) {
   const budgets = BUDGET.test(line) ? withoutBudgets(design) : { text: design, changes: [] };
   const explained = await run(["explain", "design"], { design: budgets.text });
-  if (explained.status !== 0) return { explanation: null, why: `the rest of it is refused too: ${explained.err.trimEnd()}`, changes: budgets.changes };
+  if (explained.status !== 0) return { explanation: null, why: `the rest of it is refused too: ${refusals.plain(explained.err.trimEnd(), { design: budgets.text })[0]}`, changes: budgets.changes };
   const explanation = readExplanation(explained.out);
   const lifted = explanation.miss === null ? { ...budgets, why: null } : withLaterDeadlines(budgets.text, explanation.threads);
   const changes = explanation.miss === null ? budgets.changes : [...budgets.changes, ...lifted.changes];
@@ -207,12 +207,31 @@ function showMarks() {
   for (const [kind, editor] of Object.entries(editors)) editor.show(mark?.kind === kind ? mark : null);
 }
 
-function showRefusal({ err }, texts, before) {
+/** Shows what is refused of a design; of a late one what `explain` says of its response. */
+function showRefusal({ err }, texts, explanation = null) {
   // Where memory is wanted before the run begins, no line tells it.
   const line = err.trimEnd() || "no memory";
   state.mark = markOf(line, texts);
   const [head, hint] = refusals.plain(line, texts);
-  tell("bad", [before + head, hint], line, ...goButton(state.mark));
+  const late = explanation === null ? null : lateHead(line, explanation, state.clock);
+  tell("bad", [late ?? head, withTabs(hint)], line, ...goButton(state.mark));
+}
+
+/** Shows that the design passes, and what is refused of the arrivals, with some that fit. */
+function showRefusedArrivals({ err }, texts, met) {
+  const line = err.trimEnd() || "no memory";
+  state.mark = markOf(line, texts);
+  const [head, hint] = refusals.plain(line, texts);
+  tell("part", [met, ""], line, ...goButton(state.mark));
+  at("verdict").querySelector("code").before(make("span", { class: "hint then" }, "There is no run with these arrivals. ", ...withWords(head)),
+    make("span", { class: "hint" }, ...withWords(`${withTabs(hint)} ${fittingWords(texts.design)}`.trim())));
+}
+
+/** Where arrivals are refused: some that fit, and where they come from. */
+function fittingWords(design) {
+  const lines = arrivalsFor(design).trimEnd().split("\n");
+  const more = lines.length > 3 ? " .." : "";
+  return `For example these fit the design: \`${lines.slice(0, 3).join(" ")}${more}\`. The button "Fit the design" above the arrivals writes them.`;
 }
 
 function takeBounds({ out }, texts) {
@@ -230,7 +249,7 @@ function takeBackground(texts, { background, replayed }) {
     + "under all arrivals that keep their separations.";
   [state.bounds, state.ada, state.isBackground] = [null, background.out, true];
   state.tick = tickOf(texts.design);
-  if (replayed.status !== 0) return showRefusal(replayed, texts, `${met} There is no run with these arrivals. `);
+  if (replayed.status !== 0) return showRefusedArrivals(replayed, texts, met);
   const milliseconds = Math.round(background.milliseconds + replayed.milliseconds);
   tell("good", [met, ""], `hard threads ${hard.length}, background objects ${backgroundOf(texts.design).length}; answered in ${milliseconds} ms`);
   takeTrace(replayed.out);
@@ -241,7 +260,7 @@ function takeVerified(texts, { bounds, count, verified, generated }) {
   const met = `Every deadline of ${name} is met on the modelled processor, under all arrivals that keep their separations.`;
   if (verified.status !== 0) {
     state.ada = generated.out;
-    return showRefusal(verified, texts, `${met} There is no run with these arrivals. `);
+    return showRefusedArrivals(verified, texts, met);
   }
   const milliseconds = Math.round(bounds.milliseconds + count.milliseconds + verified.milliseconds);
   tell("good", [met, ""], `objects ${objects}, threads ${threads}; answered in ${milliseconds} ms`);
@@ -257,8 +276,9 @@ function showAnswers(texts, told) {
   else if (told.bounds.status === 0) takeVerified(texts, told);
   else {
     state.bounds = null;
-    showRefusal(told.bounds, texts, "");
+    showRefusal(told.bounds, texts, told.late?.explanation ?? null);
   }
+  state.refusal = told.background === undefined && told.bounds.status !== 0 ? () => showRefusal(told.bounds, texts, told.late?.explanation ?? null) : null;
   if (state.late !== null) state.tick = tickOf(texts.design);
   for (const panel of panels) {
     if (verbTabs.every((one) => one.panel !== panel)) panel.classList.remove("stale");
@@ -280,6 +300,8 @@ function takeUnit(design) {
 /** Tells all times in the unit that is chosen. */
 function changeUnit() {
   takeUnit(state.design);
+  state.refusal?.();
+  showMarks();
   showBounds();
   timeline.setClock(state.clock);
   showDiagram();
@@ -332,7 +354,7 @@ function backgroundBounds() {
 
 /** What is told of a design that is over its limits, whose bounds nobody promises. */
 function lateBounds({ explanation, text, why, hasBudgets }, panel) {
-  if (explanation === null) return [make("p", { class: "note" }, `There are no bounds while the design is refused; ${why}.`)];
+  if (explanation === null) return [make("p", { class: "note" }, `There are no bounds while the design is refused; ${why.replace(/\.$/, "")}.`)];
   const budgets = hasBudgets ? " Each budget is lifted here, since one of them is below its cost." : "";
   const words = "The design is refused, so nothing is promised. The table tells the least solution of the response equations, as far as ten times each "
     + `limit.${budgets} ${timesAre(state.clock, state.tick)}`;
@@ -388,15 +410,23 @@ function showTimeline() {
   state.isOther = false;
 }
 
+/** Why there is no simulation: in words, or the line of a refusal in plain words, of arrivals with some that fit. */
+function whyWords(why) {
+  if (!why.startsWith("refused ")) return `${why.replace(/\.$/, "")}.`;
+  const texts = textsNow();
+  const isOfArrivals = markOf(why, texts)?.kind === "arrivals";
+  return `${refusals.plain(why, texts)[0]}${isOfArrivals ? ` ${fittingWords(texts.design).replaceAll("`", "")}` : ""}`;
+}
+
 /** A run of a late design with its limits lifted, in which its own deadlines are drawn; or why there is none. */
 function showSimulation({ explanation, why, changes, simulated }) {
-  if (why !== null) return timeline.tell(`The design is refused, and there is no simulation of it: ${why}.`);
+  if (why !== null) return timeline.tell(`The design is refused, and there is no simulation of it: ${whyWords(why)}`);
   const deadlines = new Map(explanation.threads.map((one) => [one.name, one.deadline]));
   const kinds = ["DEADLINE", "THREAD_BUDGET"].map((kind) => changes.filter(({ attribute }) => attribute === kind).length);
   const told = [[kinds[0], "deadlines as late as their periods and the order of priorities let them be"], [kinds[1], "budgets at their most"]]
     .filter(([count]) => count > 0).map(([, words]) => words).join(", and ");
   const words = `A simulation without promise: the design is refused, and this is a run of it with ${told}. Deadlines are drawn as the design has `
-    + "them, and so are bounds: what is red ends past its deadline.";
+    + "them: what is red ends past its deadline.";
   timeline.take(simulated.ada, simulated.trace.trimEnd().split("\n"), state.isOther, state.clock, { deadlines, words });
 }
 
@@ -444,6 +474,13 @@ function put(kind, text) {
 function takeOwnTrace() {
   put("trace", state.trace.text);
   laterTrace();
+}
+
+/** Puts arrivals that fit the design in the place of those that are there. */
+function takeFitting() {
+  put("arrivals", arrivalsFor(at("design").value));
+  state.isOther = true;
+  later();
 }
 
 async function format() {
@@ -497,6 +534,7 @@ function listenToButtons() {
   at("close").addEventListener("click", () => at("how").close());
   at("take").addEventListener("click", takeSkeleton);
   at("own").addEventListener("click", takeOwnTrace);
+  at("fitting").addEventListener("click", takeFitting);
   document.addEventListener("click", ({ target }) => { if (target instanceof Element && target.matches("#cut, .cut")) runs.start(); });
   window.addEventListener("resize", () => { timeline.render(); diagram.render(); });
 }

@@ -1,11 +1,11 @@
 // One report of a design, as a page that needs nothing else and prints: verdict, what is proved, diagrams, tables, bars, margins, what to change, runs.
 // What it tells is given as data; tools/report/report.mjs gathers it.
-import { Bars, scaleFor } from "./bars.js";
+import { barsInParts, scaleFor } from "./bars.js";
 import { Chart, LEGEND, MARK, marksOf, pictureOf, tasksByPriority } from "./chart.js";
 import { Clock, TICKS } from "./clock.js";
 import { Diagram, MOST_WHOLE } from "./diagram.js";
 import { slackOf, utilisationOf, wrongSums } from "./explanation.js";
-import { htmlOf } from "./markup.js";
+import { htmlOf, withNames } from "./markup.js";
 import { objectAt } from "./outline.js";
 import { boundTable, ceilingTable, chainTable, hardTable, htmlTable, objectTable, tableOfLines, termTable } from "./tables.js";
 import { Run, Trace, readProgram } from "./traces.js";
@@ -37,6 +37,10 @@ import { Run, Trace, readProgram } from "./traces.js";
 const WIDTH = 1000; // pixels of bars and charts
 const MOST_LEVELS = 40; // objects with children that get a picture of their own
 const WIDEST = 1300; // pixels of a whole diagram that stands alone
+const PAGE = 680; // pixels of the width of a page of paper, and of one across with its height
+const ACROSS = [1000, 600];
+const FINEST = 0.55; // by which a diagram is made smaller at most on paper, which shows more than a screen
+const TALLEST = 1300; // pixels of bars on one page
 const MOST_TEXT = 200000; // characters of a text that stands in the report
 const MOST_LINES = 1500000; // of a trace, of which a chart is made
 const FIRST_EVENTS = 90;
@@ -207,12 +211,20 @@ export class Report {
     const whole = isWhole ? new Diagram(this.outline, told).draw(true) : null;
     const isWide = whole === null || Number(whole.get("width")) > WIDEST;
     const levels = isWide && parents.length > 1 ? parents.slice(0, MOST_LEVELS) : [];
+    const size = whole === null ? [0, 0] : [Number(whole.get("width")), Number(whole.get("height"))];
+    const isLarge = levels.length > 0 && (size[0] * FINEST > ACROSS[0] || size[1] * FINEST > ACROSS[1]);
+    const isAcross = size[0] > 1.7 * PAGE && !isLarge;
     const more = levels.length > 0 && parents.length > MOST_LEVELS ? `${parents.length - MOST_LEVELS} more objects with children aren't drawn.` : null;
-    return sectionOf("diagram", "HOOD diagram",
-      fault === undefined ? null : htmlOf("p", {}, `What is refused stands in ${fault.name}, which is marked.`),
-      whole === null ? null : figureOf(whole, `The design ${name}, with all objects inside their parents${levels.length > 0 ? "; each parent follows by itself" : ""}.`, "whole"),
-      levels.map((focus) => figureOf(new Diagram(this.outline, { ...told, focus, isFlat: true }).draw(), this.wordsOf(focus), "level")),
-      more === null ? null : htmlOf("p", { class: "note" }, more));
+    const kind = isLarge ? "whole large" : isAcross ? "whole across" : "whole";
+    const head = [htmlOf("h2", {}, "HOOD diagram"), ...(fault === undefined ? [] : [htmlOf("p", {}, `What is refused stands in ${fault.name}, which is marked.`)])];
+    const words = `The design ${name}, with all objects inside their parents${levels.length > 0 ? "; each parent follows by itself" : ""}.`;
+    const pictures = whole === null ? [] : [figureOf(whole, words, kind)];
+    const paper = isLarge ? [htmlOf("p", { class: "on-paper" }, "All objects in one picture are too many for a page of paper. Each parent follows by itself.")] : [];
+    const parts = levels.map((focus) => figureOf(new Diagram(this.outline, { ...told, focus, isFlat: true }).draw(), this.wordsOf(focus), "level"));
+    // On paper the first part stands in the place of the whole.
+    const lead = isLarge ? [...pictures, ...paper, ...parts.splice(0, 1)] : pictures;
+    return htmlOf("section", { id: "diagram" }, htmlOf("div", { class: isAcross ? "lead across" : "lead" }, ...head, ...lead), ...parts,
+      ...(more === null ? [] : [htmlOf("p", { class: "note" }, more)]));
   }
 
   /** The bounds that a diagram shows: those of threads that have a response. */
@@ -237,8 +249,18 @@ export class Report {
       : "Each bar is as wide as the deadline of its thread, at the red stroke, or its response where that is later; what is left before it is slack";
     const sums = wrong ?? "Each response is the sum of its terms, which was checked for this report. The red hatched part is blocking.";
     const details = terms === null ? null : htmlOf("details", {}, htmlOf("summary", {}, "The terms as a table"), terms);
-    return sectionOf("bars", "Of what each response is made", htmlOf("p", wrong === null ? {} : { class: "wrong" }, sums),
-      this.clocks.map((clock) => figureOf(new Bars(this.explanation, WIDTH, { scale, clock }).draw(), `${caption}; times in ${clock.unit}.`)), details);
+    const [first, ...more] = this.clocks.flatMap((clock) => this.barFigures(clock, scale, caption));
+    const lead = htmlOf("div", { class: "lead" }, htmlOf("h2", {}, "Of what each response is made"), htmlOf("p", wrong === null ? {} : { class: "wrong" }, sums), first);
+    return htmlOf("section", { id: "bars" }, lead, ...more, ...(details === null ? [] : [details]));
+  }
+
+  /** The bars in one unit, as many to a picture as a page has room for. */
+  barFigures(clock, scale, caption) {
+    const parts = barsInParts(this.explanation, WIDTH, { scale, clock }, TALLEST);
+    return parts.map(({ shown, bars }, place) => {
+      const which = parts.length === 1 ? "" : shown.length === 0 ? "Chains of requests. " : shown.length === 1 ? `${shown[0].name}. ` : `${shown[0].name} to ${shown.at(-1).name}. `;
+      return figureOf(withNames(bars.draw(), `bars-${clock.unit}-${place + 1}`), `${which}${caption}; times in ${clock.unit}.`, "tall");
+    });
   }
 
   marginPart(table) {
@@ -273,13 +295,14 @@ export class Report {
     }
     const first = Math.max(1, trace.events[Math.min(FIRST_EVENTS, trace.events.length - 1)].time);
     const words = `The arrivals are one case of all that the bounds cover. The trace has ${lines.length} lines.`;
-    const charts = [this.chart(trace, 0, first, "From its beginning"), this.closest(trace, first)];
-    return sectionOf(id, head, htmlOf("p", {}, words), charts, this.legend(), this.totals(trace, place));
+    const [opening, closest] = [this.chart(trace, 0, first, "From its beginning", id), this.closest(trace, first, `${id}-near`)];
+    return htmlOf("section", { id }, htmlOf("div", { class: "lead" }, htmlOf("h2", {}, head), htmlOf("p", {}, words), opening ?? ""), closest ?? "", this.legend(id),
+      this.totals(trace, place));
   }
 
-  legend() {
+  legend(id) {
     return htmlOf("div", { class: "legend" }, ...LEGEND.map(([kind, words]) =>
-      htmlOf("span", { class: "key" }, pictureOf(MARK, MARK, null, ...marksOf(kind)), words)));
+      htmlOf("span", { class: "key" }, withNames(pictureOf(MARK, MARK, null, ...marksOf(kind)), `${id}-key`), words)));
   }
 
   totals(trace, place) {
@@ -292,19 +315,19 @@ export class Report {
   }
 
   /** A chart of a window, in milliseconds where the design tells them. */
-  chart(trace, from, to, words) {
+  chart(trace, from, to, words, id) {
     if (trace.countBetween(from, to) > MOST_EVENTS) return null;
     const clock = this.clocks[this.clocks.length - 1];
     const window = `${words}: ${clock.number(from)} to ${clock.span(to)} of ${clock.number(trace.last)}.`;
     try {
-      return figureOf(new Chart(new Run(trace, from, to), WIDTH, { clock }).draw(), window, "run");
+      return figureOf(withNames(new Chart(new Run(trace, from, to), WIDTH, { clock }).draw(), id), window, "run");
     } catch (fault) {
       return htmlOf("p", { class: "note" }, `Ticks ${from} to ${to} can't be drawn: ${fault.message}.`);
     }
   }
 
   /** The window of the activation that came nearest to its bound, if it stands behind what is drawn already. */
-  closest(trace, drawn) {
+  closest(trace, drawn, id) {
     let best = null;
     for (const one of trace.activations) {
       if (one.end === null || one.task.bound === null) continue;
@@ -316,7 +339,7 @@ export class Report {
     const room = Math.max(10, Math.round(task.bound / 4));
     const words = `Nearest to its bound came ${task.name}, released at ${this.timesOf(release)}, with a response of ${this.timesOf(end - release)} of `
       + `${this.timesOf(task.bound)}`;
-    return this.chart(trace, Math.max(0, release - room), Math.min(trace.last, release + task.bound + room), words);
+    return this.chart(trace, Math.max(0, release - room), Math.min(trace.last, release + task.bound + room), words, id);
   }
 
   // ---- What went in ----

@@ -9,6 +9,7 @@ import { htmlOf } from "./markup.js";
  */
 
 const NONE = "-";
+const MOST_TOGETHER = 14; // rows of a table that stays on one page of paper
 
 /** A time as a cell, where there is one. */
 function timeIn(ticks, clock) {
@@ -94,7 +95,7 @@ export function htmlTable({ caption, heads, rows, words, id }) {
   const head = htmlOf("tr", {}, ...heads.map((text, column) => htmlOf("th", { scope: "col", ...kindOf(column) }, text)));
   const body = rows.map(([first, ...cells]) => htmlOf("tr", {}, htmlOf("th", { scope: "row" }, String(first)),
     ...cells.map((cell, index) => htmlOf("td", kindOf(index + 1), String(cell)))));
-  return htmlOf("div", { class: "table", tabindex: 0, role: "region", "aria-label": caption }, htmlOf("table", { id: `table-${id}` },
+  return htmlOf("div", { class: rows.length > MOST_TOGETHER ? "table" : "table short", tabindex: 0, role: "region", "aria-label": caption }, htmlOf("table", { id: `table-${id}` },
     htmlOf("caption", {}, caption), htmlOf("thead", {}, head), htmlOf("tbody", {}, ...body)));
 }
 

@@ -6,18 +6,28 @@ const MOST_LINES = 1500000; // of a trace, of which a timeline is made
 const FIRST_EVENTS = 90;
 const LIST_LINES = 5000;
 
-const FAR = "Too much happens here to be drawn: each height is the greatest response of what is released there, before the bound. "
-  + "Go closer to see who runs.";
+/** The words below a window in which too much happens, where ends are judged by a bound or a deadline. */
+function farWords(limit) {
+  return `Too much happens here to be drawn: each height is the greatest response of what is released there, before the ${limit}. Go closer to see who runs.`;
+}
+
 const NEAR = "Drag to move, double-click to go closer; Ctrl and the wheel change the size. "
   + "Who runs follows from the trace; that is tested, and not proved.";
 
-function legend() {
+/** What the marks mean, where ends are judged by a bound or a deadline. */
+function legend(limit) {
   return make("div", { class: "legend" }, ...LEGEND.map(([kind, words]) => {
     const made = make("span", { class: "key" });
-    made.innerHTML = pictureOf(MARK, MARK, null, ...marksOf(kind)).write();
-    made.append(words);
+    made.innerHTML = withNames(pictureOf(MARK, MARK, null, ...marksOf(kind)), "key").write();
+    made.append(kind === "kept" ? `release to ${limit}` : words);
     return made;
   }));
+}
+
+/** Judges the ends of a task by its deadline, where it has no bound. */
+function judgeBy(task, deadline) {
+  task.deadline = task.bound = deadline;
+  task.limit = "deadline";
 }
 
 class Timeline {
@@ -26,7 +36,7 @@ class Timeline {
     this.style = style;
     this.trace = null;
     this.clock = TICKS;
-    this.simulated = null; // of a late design: its deadlines, and the words that tell what this is
+    this.simulated = null; // of a late design: its deadlines, and the words that say what this is
     this.drawn = draw("svg", {}); // of the window that is shown
     this.from = 0;
     this.to = 1;
@@ -41,7 +51,7 @@ class Timeline {
     this.holder = make("div", { class: "holder", tabindex: "0", role: "group", id: "window", "aria-label": name });
     this.list = make("pre", { class: "text", tabindex: "0", "aria-label": "Who runs when" });
     this.details = make("details", {}, make("summary", {}, "Who runs when, as text"), this.list);
-    this.legend = legend();
+    this.legend = legend("bound");
     this.listen();
   }
 
@@ -61,6 +71,11 @@ class Timeline {
 
   span() {
     return this.to - this.from;
+  }
+
+  /** What ends are judged by. */
+  limit() {
+    return this.simulated === null ? "bound" : "deadline";
   }
 
   /** The tick at a place of the screen. */
@@ -125,7 +140,7 @@ class Timeline {
     this.simulated = simulated;
     try {
       const program = readProgram(ada);
-      if (simulated !== null) for (const task of program.tasks.values()) task.deadline = task.bound = simulated.deadlines.get(task.name) ?? null;
+      if (simulated !== null) for (const task of program.tasks.values()) judgeBy(task, simulated.deadlines.get(task.name) ?? null);
       this.trace = new Trace(program, lines.slice(0, MOST_LINES));
     } catch (fault) {
       return this.tell(`There is no timeline: ${fault.message}.`);
@@ -145,30 +160,33 @@ class Timeline {
       return button;
     });
     this.inputs = ["from", "to"].map((name) => {
-      const input = make("input", { type: "number", min: 0, max: this.trace.last, id: `window-${name}` });
+      const input = make("input", { type: "number", min: 0, step: "any", id: `window-${name}` });
       input.addEventListener("change", () => this.read());
       return input;
     });
     const [from, to] = this.inputs;
+    this.whole = make("span", {});
     const save = saveButton("timeline.svg", () => this.picture());
     const cut = this.isCut ? [make("p", { class: "note" }, `The timeline is of the first ${MOST_LINES} lines of the trace.`)] : [];
     if (this.simulated !== null) cut.unshift(make("p", { class: "simulated" }, this.simulated.words));
+    this.legend = legend(this.limit());
     this.note = make("p", { class: "note" });
     this.totalsHolder = make("div", {}, this.totals());
     this.panel.replaceChildren(make("div", { class: "tools" }, save, ...buttons, make("label", {}, "from ", from), make("label", {}, "to ", to),
-      `of ${this.trace.last} ticks`), ...cut, this.holder, this.note, this.legend, this.details, this.totalsHolder);
+      this.whole), ...cut, this.holder, this.note, this.legend, this.details, this.totalsHolder);
     this.render();
   }
 
   read() {
-    const [from, to] = this.inputs.map((input) => Math.max(0, Math.round(Number(input.value)) || 0));
+    const [from, to] = this.inputs.map((input) => Math.max(0, this.clock.ticks(Number(input.value)) || 0));
     this.window(Math.min(from, to - 1), Math.max(to, from + 1));
   }
 
   render() {
     if (this.trace === null || this.panel.hidden) return;
     const [from, to] = this.inputs;
-    [from.value, to.value] = [this.from, this.to];
+    [from.value, to.value] = [this.from, this.to].map((ticks) => this.clock.number(ticks));
+    this.whole.textContent = `of ${this.clock.span(this.trace.last)}`;
     const width = Math.max(360, this.holder.clientWidth || this.panel.clientWidth - 30);
     const isFar = this.trace.countBetween(this.from, this.to) > MOST_EVENTS;
     try {
@@ -177,7 +195,7 @@ class Timeline {
       this.drawn = isFar ? new Heights(this.trace, this.from, this.to, width, clock).draw() : new Chart(this.run, width, { clock }).draw();
       if (this.simulated !== null) this.drawn.append(textAt(8, 14, "simulated, no promise", "small bad"));
       this.holder.innerHTML = this.drawn.write();
-      this.note.textContent = isFar ? FAR : NEAR;
+      this.note.textContent = isFar ? farWords(this.limit()) : NEAR;
       this.legend.hidden = isFar;
     } catch (fault) {
       this.run = null;

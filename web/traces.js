@@ -28,6 +28,7 @@ class Task {
   constructor(name) {
     this.name = name;
     this.priority = this.period = this.offset = this.deadline = this.bound = this.jitter = this.cost = this.blocking = null;
+    this.limit = "bound"; // what `bound` is: in a simulation, the deadline
     this.isCyclic = true;
     this.isExternal = false;
   }

@@ -7,7 +7,7 @@ function factorOf(perMille) {
 }
 
 /** What fails at the next per mille, in plain words. */
-function nextOf(next, perMille) {
+function nextOf(next, perMille, clock) {
   const over = `At ${perMille + 1} per mille`;
   if (next === "limit") return "Nothing fails up to there, which is the greatest that is tried.";
   const [, object, part] = /^cost (\S+) (\S+)/.exec(next) ?? [];
@@ -15,7 +15,8 @@ function nextOf(next, perMille) {
   if (part !== undefined) return `${over} the operation ${part} of ${object} costs over 1,000,000,000 ticks.`;
   const [, code, thread, value, limit] = /^(U[12]) (\S+) value (\d+) limit (\d+)/.exec(next) ?? [];
   const what = code === "U1" ? "the response time" : "the jitter and the response time together";
-  return `${over} ${thread} is over its limit first: ${what} of ${value} or more, and not ${limit}.`;
+  const [least, most] = [value, limit].map((ticks) => clock.time(Number(ticks)));
+  return `${over} ${thread} is over its limit first: ${what} of ${least} or more, and not ${most}.`;
 }
 
 /** `scale`: how far all work may grow. */
@@ -26,7 +27,7 @@ function marginView(out) {
   const shrinks = `Each thread keeps its limits only with all work at ${factorOf(perMille)} times what it is, or less`;
   return [
     make("p", {}, make("b", {}, `${perMille < 1000 ? shrinks : grows} (${perMille} per mille).`)),
-    make("p", {}, nextOf(next, perMille)),
+    make("p", {}, nextOf(next, perMille, state.clock)),
     make("p", { class: "note" }, "Each number of ticks in work is scaled and rounded up; costs, periods, deadlines, jitters and priorities stay."),
   ];
 }
@@ -139,6 +140,15 @@ const VERBS = [
   { verb: "arrange", label: "Arrange", takes: ["design"], file: "arranged.ada", view: arrangeView },
 ];
 
+/** A hint with the names of tabs in the place of verbs, as the page knows them. */
+function withTabs(text) {
+  const labels = new Map([["analyse", "Bounds"], ...VERBS.map(({ verb, label }) => /** @type {[string, string]} */ ([verb, label]))]);
+  return text.replace(/, `(tools\/\S+)`/g, ", and outside this page `$1`").replace(/(?<=(^|\. )?)`(\w+)`/g, (whole, before, verb, place) => {
+    if (!labels.has(verb)) return whole;
+    return `${before !== undefined || place === 0 ? "The" : "the"} tab ${labels.get(verb)}`;
+  });
+}
+
 /** The tab of a verb. Its run begins when the tab is chosen, and again when a text that it takes has changed meanwhile. */
 class VerbTab {
   constructor({ verb, label, takes, file, view, none = undefined }) {
@@ -223,7 +233,7 @@ class VerbTab {
       ...goButton(this.mark).map((button) => make("div", { class: "tools" }, button)),
       make("p", {}, make("b", {}, ...withWords(head))),
       ...why,
-      make("p", {}, ...withWords(isOther ? NO_MACHINE : hint)),
+      make("p", {}, ...withWords(isOther ? NO_MACHINE : withTabs(hint))),
       make("pre", { class: "text" }, line),
     ];
   }

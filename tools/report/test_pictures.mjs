@@ -11,13 +11,15 @@ import { tmpdir } from "node:os";
 import { join, resolve } from "node:path";
 import { env } from "node:process";
 import { test } from "node:test";
-import { Bars, scaleFor } from "../../web/bars.js";
+import { arrivalsFor } from "../../web/arrivals.js";
+import { Bars, barsInParts, scaleFor } from "../../web/bars.js";
 import { changesOfBounds, changesOfTexts, markdownOf } from "../../web/changes.js";
-import { Clock, TICKS } from "../../web/clock.js";
+import { Clock, TICKS, ticksOf } from "../../web/clock.js";
 import { tokensOf } from "../../web/design_text.js";
 import { Diagram } from "../../web/diagram.js";
 import { partsOf, readExplanation, slackOf, spareOf, termsOf, utilisationOf, wrongSums } from "../../web/explanation.js";
 import { backgroundOf, objectAt, readOutline, usesOf } from "../../web/outline.js";
+import { withNames } from "../../web/markup.js";
 import { markOf } from "../../web/places.js";
 import { Report, guaranteeOf } from "../../web/report.js";
 import { csvOf, latexOf, tableOfLines } from "../../web/tables.js";
@@ -157,6 +159,21 @@ test("a text that breaks off, or lacks a part, is read and drawn", () => {
 test("clients and servers are found", () => {
   assert.deepEqual(plainly(backgroundOf(read("logged_control.design")).map((one) => one.name)), ["journal", "reporter"]);
   assert.equal(backgroundOf(read("mine_pump.design")).length, 0);
+});
+
+// ---- Arrivals that fit ----
+
+test("arrivals that fit have each object that the outside requests, with a value where its operation has a parameter", () => {
+  assert.equal(arrivalsFor(read("mine_pump.design")), "UNTIL 12000;\nAT 1200 water_handler 1;\n");
+  assert.equal(arrivalsFor(read("one_cyclic_object.design")).split("\n").length, 2);
+  assert.match(arrivalsFor(read("late_control.design")), /^UNTIL 10000;\nAT 1000 telecommand 1;\n$/);
+  assert.equal(arrivalsFor(""), "UNTIL 100;\n");
+  assert.equal(arrivalsFor("design d is object a is cyclic attributes period = 0; deadline = 1; thread_budget = 1; end a; end d;"), "UNTIL 100;\n");
+});
+
+test("a time of a design is told in ticks, and those that are told are read again", () => {
+  assert.deepEqual([ticksOf({ number: 7, unit: null }, null), ticksOf({ number: 7, unit: null }, 100), ticksOf({ number: 3, unit: "ms" }, 100)], [7, 7, 30]);
+  for (const clock of [TICKS, new Clock(100), new Clock(50)]) for (const ticks of [0, 1, 77, 12345]) assert.equal(clock.ticks(Number(clock.number(ticks))), ticks);
 });
 
 // ---- Who uses what ----
@@ -437,6 +454,29 @@ test("the parts of a bar are as wide as their ticks, up to the deadline, up to t
       assert.ok(Math.abs(right - left - response * pixels) < 1.5, `${name}: ${right}`);
     });
   }
+});
+
+test("bars in parts have each thread once, no part that is too high, and the chains below the last", () => {
+  const told = readExplanation(read("wanted/late_platform.explain"));
+  for (const [most, count] of [[1300, 2], [400, 6], [100000, 1]]) {
+    const parts = barsInParts(told, 1000, { scale: "deadline" }, most);
+    assert.ok(parts.length >= count, `${most}: ${parts.length}`);
+    assert.deepEqual(parts.flatMap(({ shown }) => shown.map((one) => one.name)), told.threads.map((one) => one.name));
+    const drawn = parts.map(({ bars }) => bars.draw());
+    assert.deepEqual(drawn.map((one) => one.write().includes("data-chain")), parts.map((_, place) => place === parts.length - 1));
+    if (most === 1300) for (const one of drawn) assert.ok(Number(one.get("height")) < 1500);
+  }
+});
+
+test("pictures of one page share no name of a pattern, and each fill leads to one of its own picture", () => {
+  const told = readExplanation(LATE.replace("blocking 0", "blocking 1"));
+  const [one, other] = ["one", "other"].map((word) => withNames(new Bars(told, 900).draw(), word).write());
+  const namesOf = (text) => [...text.matchAll(/ id="([^"]*)"/g)].map(([, name]) => name);
+  for (const text of [one, other]) {
+    const used = [...text.matchAll(/fill="url\(#([^)]*)\)"/g)].map(([, name]) => name);
+    assert.ok(used.length > 1 && used.every((name) => namesOf(text).includes(name)), `${used}`);
+  }
+  assert.deepEqual([namesOf(one), namesOf(other)], [["one-blocked"], ["other-blocked"]]);
 });
 
 test("a thread that is late goes on past its deadline, and one that is given up has no bar", () => {

@@ -40,7 +40,7 @@ mapfile -t python < <(files '\.py$')
 mapfile -t modules < <(files '\.mjs$')
 page=(web/{texts,runs,trace_places,bounds,timeline,explained,diagram_tab,verbs,page}.js)
 told=(web/{design_text,places,refusals,markup,clock}.js)
-drawn=(web/{traces,chart,sheet,outline,layout,diagram,explanation,bars,tables,lifted,report,changes}.js)
+drawn=(web/{arrivals,traces,chart,sheet,outline,layout,diagram,explanation,bars,tables,lifted,report,changes}.js)
 host=(web/library_{host,worker}.js)
 types=(--noEmit --allowJs --checkJs --target es2022 --module es2022 --moduleResolution node)
 

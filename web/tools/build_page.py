@@ -21,8 +21,9 @@ from typing import Any
 TOP = os.path.dirname(os.path.dirname(os.path.dirname(os.path.abspath(__file__))))
 # Modules, each behind those that it imports, with what the scripts of the page use of them; then the scripts, which share their names.
 MODULES = (('design_text', ('tokensOf',)), ('places', ('markOf',)), ('refusals', ('Refusals',)), ('clock', ('Clock', 'TICKS', 'microsecondsOf')),
-           ('markup', ('asFile', 'draw', 'textAt')), ('outline', ('backgroundOf', 'objectAt', 'readOutline')), ('layout', ()),
-           ('diagram', ('Diagram', 'MOST_WHOLE', 'linesOfObject')),
+           ('markup', ('asFile', 'draw', 'textAt', 'withNames')), ('outline', ('backgroundOf', 'objectAt', 'readOutline')),
+           ('arrivals', ('arrivalsFor',)), ('layout', ()),
+           ('diagram', ('Diagram', 'LEGIBLE', 'MOST_AT_ONCE', 'linesOfObject')),
            ('explanation', ('partsOf', 'readExplanation', 'slackOf', 'spareOf', 'termsOf', 'utilisationOf', 'wrongSums')),
            ('tables', ('chainTable',)), ('bars', ('Bars', 'scaleFor')), ('lifted', ('withLaterDeadlines', 'withoutBudgets')),
            ('traces', ('ProgramReader', 'Run', 'Trace', 'listed', 'readEvent', 'readProgram')),

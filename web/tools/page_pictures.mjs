@@ -3,7 +3,7 @@ import { Bars } from "../bars.js";
 import { microsecondsOf } from "../clock.js";
 import { readExplanation } from "../explanation.js";
 import { backgroundOf, objectAt, readOutline } from "../outline.js";
-import { answerOf, designs, js, judge, read, same, set } from "./page_trial.mjs";
+import { answerOf, designs, js, judge, panelOf, read, same, set } from "./page_trial.mjs";
 
 const click = (page, id) => page.evaluate(`document.getElementById(${js(id)}).click()`);
 
@@ -21,6 +21,7 @@ async function tryDrawn(page) {
   for (const design of drawn) {
     const text = read(design);
     await set(page, { design: text, arrivals: read("until_20.arrivals") });
+    await page.evaluate(`diagram.draw("")`);
     const names = sorted(readOutline(text).objects.map((one) => one.name));
     const told = await page.evaluate(`(() => ({
       drawn: [...document.querySelectorAll("#diagram [data-object]")].map((one) => one.dataset.object),
@@ -219,6 +220,7 @@ export async function tryUnits(page) {
   await click(page, "tab-timeline");
   const titles = await page.evaluate(`[...document.querySelectorAll("#window svg title")].map((one) => one.textContent)`);
   judge(titles.length > 10 && titles.every((title) => / ms\b/.test(title)), `titles of the timeline in milliseconds: ${titles.filter((one) => !/ ms\b/.test(one)).slice(0, 3)}`);
+  judge(titles.some((title) => title.includes("deadline")) && titles.every((title) => !title.includes("bound")), "a deadline is told as such");
   await click(page, "tab-diagram");
   const box = await page.evaluate(`document.querySelector("#diagram [data-object='gyro']").textContent`);
   judge(box.includes("response 1.9 of 4 ms"), `the diagram in milliseconds: ${box}`);
@@ -226,11 +228,20 @@ export async function tryUnits(page) {
   await page.until("document.querySelector('#panel-explain:not([aria-busy=true]) svg.bars') !== null", 60);
   const bars = await page.evaluate(`document.querySelector("#panel-explain svg.bars").textContent`);
   judge(bars.includes("late by 12.9 ms"), "the bars in milliseconds");
+  const [window, whole] = await page.evaluate(`(() => { choose(at("tab-timeline")); timeline.window(100, 300);
+    return [timeline.inputs.map((one) => one.value), timeline.whole.textContent]; })()`);
+  same([window, whole], [["10", "30"], "of 300 ms"], "the window of the timeline in milliseconds");
+  await page.evaluate(`(() => { timeline.inputs[1].value = "45.5"; timeline.inputs[1].dispatchEvent(new Event("change")); })()`);
+  same(await page.evaluate("[timeline.from, timeline.to]"), [100, 455], "and as it is typed");
+  const margin = await panelOf(page, "scale");
+  judge(/over its limit first: .* of [\d.]+ ms or more, and not [\d.]+ ms/.test(margin.text), `the margin in milliseconds: ${margin.text}`);
+  const head = await page.evaluate(`document.querySelector("#verdict strong").textContent`);
+  judge(/is up to 72\.9 ms, which is 12\.9 ms past its deadline of 60 ms/.test(head), `the verdict in milliseconds: ${head}`);
   await choose("ticks");
   judge((await page.evaluate(`document.querySelector("#panel-explain svg.bars").textContent`)).includes("late by 129 ticks"), "and in ticks again");
   await set(page, MINE());
 }
 
 /** The tabs with pictures, to be looked at in narrow windows and in both colours. */
-export const PICTURES = [["diagram", "mine_pump.design"], ["diagram", "late_control.design"], ["bounds", "late_control.design"],
+export const PICTURES = [["diagram", "mine_pump.design"], ["diagram", "late_control.design"], ["diagram", "late_platform.design"], ["bounds", "late_control.design"],
   ["timeline", "late_control.design"], ["explain", "late_platform.design"]];

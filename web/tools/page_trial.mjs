@@ -66,7 +66,7 @@ export async function shown(page) {
     const text = editor?.area.value;
     const verdict = document.getElementById("verdict");
     return { kind, index: editor?.mark.index, marked: text?.slice(editor.mark.index, editor.mark.index + editor.mark.length), text,
-      head: verdict.querySelector("strong").textContent, line: verdict.querySelector("code").textContent, isBad: verdict.className === "bad" };
+      head: verdict.querySelector("strong").textContent, line: verdict.querySelector("code").textContent, isBad: ["bad", "part"].includes(verdict.className) };
   })()`);
 }
 

@@ -14,6 +14,7 @@ import { pathToFileURL } from "node:url";
 import { findBrowser, openBrowser } from "./browser.mjs";
 import { PICTURES, tryBars, tryDiagram, tryLate, tryUnits } from "./page_pictures.mjs";
 import { tryBackground, tryTraces, tryVerbTabs } from "./page_tabs.mjs";
+import { tryFitting, tryLargeDiagram, tryPaper, tryWalk } from "./page_walk.mjs";
 import {
   EXAMPLES, MOST, TOP, answerOf, count, designs, filesOf, hasBackground, js, judge, judgeMark, panelOf, program, read, same, set, shown,
 } from "./page_trial.mjs";
@@ -375,13 +376,14 @@ async function tryStop(page) {
 
 /** By the Tab key alone every control is reached, and each has a name. */
 async function tryKeyboard(page) {
+  await set(page, { design: read("mine_pump.design"), arrivals: read("one_water_alarm.arrivals") });
   await page.evaluate("(() => { document.getElementById('tab-timeline').click(); document.activeElement.blur(); document.body.focus(); })()");
   const reached = new Set();
   for (let turn = 0; turn < 60; turn++) {
     await page.press("Tab");
     reached.add(await page.evaluate("(({ id, ariaLabel, textContent }) => id || ariaLabel || textContent.trim())(document.activeElement)"));
   }
-  const controls = ["example", "help", "Open a design", "Save the design", "format", "design", "Open arrivals", "arrivals", "tab-timeline",
+  const controls = ["example", "help", "Open a design", "Save the design", "format", "design", "fitting", "Open arrivals", "arrivals", "tab-timeline",
     "panel-timeline", "Earlier", "Later", "Whole", "window-from", "window"];
   for (const name of controls) judge(reached.has(name), `the Tab key reaches ${name}`);
   await page.page("Accessibility.enable");
@@ -443,6 +445,9 @@ async function tryColours(page) {
     same(await page.evaluate(CONTRAST), [], `texts of too little contrast in ${scheme} colours`);
     await set(page, { design: read("faults/u1.design"), arrivals: read("until_20.arrivals") });
     same(await page.evaluate(CONTRAST), [], `texts of too little contrast in ${scheme} colours, of a refusal`);
+    await set(page, { design: read("mine_pump.design"), arrivals: read("faults/q3.arrivals") });
+    same(await page.evaluate("at('verdict').className"), "part", "arrivals of another design");
+    same(await page.evaluate(CONTRAST), [], `texts of too little contrast in ${scheme} colours, of refused arrivals`);
   }
   for (const scheme of ["light", "dark"]) {
     await page.scheme(scheme);
@@ -546,12 +551,13 @@ try {
   const page = await browser.open(pathToFileURL(file).href);
   await page.until("document.querySelector('#verdict.good')", 120);
   const steps = { tryVerbs, tryCodes, tryMarks, tryTyping, tryFormat, tryBegin, tryPrinted, tryVerbTabs, tryBackground, tryTraces, tryTimeline, tryWindow,
-    tryDiagram, tryBars, tryLate, tryUnits, tryLarge, tryMemory, tryStop, tryKeyboard, tryColours, tryNarrow };
-  const unknown = (only ?? []).filter((name) => steps[name] === undefined);
+    tryDiagram, tryLargeDiagram, tryBars, tryLate, tryUnits, tryWalk, tryFitting, tryLarge, tryMemory, tryStop, tryKeyboard, tryColours, tryNarrow };
+  const unknown = (only ?? []).filter((name) => steps[name] === undefined && name !== "tryPaper");
   if (unknown.length > 0) judge(false, `no such step: ${unknown.join(", ")}`);
   for (const [name, step] of Object.entries(steps)) {
     if (only === null || only.includes(name)) await step(page).catch((fault) => judge(false, `${name}: ${fault.message}`));
   }
+  if (only === null || only.includes("tryPaper")) await tryPaper(browser).catch((fault) => judge(false, `tryPaper: ${fault.message}`));
   await trySaves(browser, page);
   await tryQuiet(page);
   if (pictures !== null) await takePictures(page);

@@ -91,10 +91,22 @@ function explainedBars(explanation, clock, room) {
   return [make("div", { class: "tools" }, saveButton("bars.svg", () => asFile(drawn, BARS_STYLE)), pick), sums, holder];
 }
 
+/** The background objects of a design: clients, which have no bound, and servers with their ceilings. */
+function explainedBackground({ clients, servers }, clock) {
+  const tables = [];
+  if (clients.length > 0) {
+    const rows = clients.map(({ name, priority, cost }) => [name, priority, clock.number(cost)]);
+    tables.push(tableOf(`Clients, which run in what the threads leave; times in ${clock.unit}`, ["Client", "Priority", "Cost of a turn"], rows));
+  }
+  if (servers.length > 0) tables.push(tableOf("Servers", ["Server", "Ceiling"], servers.map(({ name, ceiling }) => [name, ceiling])));
+  return tables;
+}
+
 /** All that is told of an explanation. */
 function explainedParts(explanation, clock, room) {
-  if (explanation.threads.length === 0) return [make("p", { class: "note" }, "The design has no thread, so nothing is bounded.")];
+  const background = explainedBackground(explanation, clock);
+  if (explanation.threads.length === 0) return [make("p", { class: "note" }, "The design has no thread, so nothing is bounded."), ...background];
   const sums = make("p", { class: "sums" }, `${SPARE} Costs by periods come to ${utilisationOf(explanation.threads)} of the processor.`);
-  return [explainedTable(explanation, clock), sums, ...explainedBars(explanation, clock, room), ...explainedChains(explanation, clock),
+  return [explainedTable(explanation, clock), sums, ...explainedBars(explanation, clock, room), ...explainedChains(explanation, clock), ...background,
     make("details", {}, make("summary", {}, "The bars as text"), explainedList(explanation, clock))];
 }

@@ -15,9 +15,9 @@ function threadOf(words) {
     blocked: null, delayed: [], spare: null, late: null, beyond: null, behind: null };
 }
 
-/** Reads the lines of `explain`, or of `analyse`, whose threads have no causes. */
+/** Reads the lines of `explain`, or of `analyse`, whose threads have no causes. Clients and servers are those of a design with background objects. */
 export function readExplanation(text) {
-  const found = { miss: null, threads: [], chains: [], ceilings: [] };
+  const found = { miss: null, threads: [], chains: [], ceilings: [], clients: [], servers: [] };
   const byName = new Map();
   for (const line of text.split("\n")) {
     const words = line.split(" ");
@@ -33,6 +33,8 @@ export function readExplanation(text) {
     } else if (kind === "chain") {
       found.chains.push({ name, ...numbersFrom(words.slice(0, 6), 2), by: words.slice(7) });
     } else if (kind === "ceiling") found.ceilings.push({ name, ceiling: Number(words[2]) });
+    else if (kind === "client") found.clients.push({ name, ...numbersFrom(words, 2) });
+    else if (kind === "server") found.servers.push({ name, ...numbersFrom(words, 2) });
     else if (thread === undefined) continue;
     else if (kind === "started") thread.started = { by: words[3], ...numbersFrom(words, 4) };
     else if (kind === "blocked") thread.blocked = { by: words[3], inside: words[5], ticks: Number(words[7]) };

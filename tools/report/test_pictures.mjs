@@ -426,6 +426,23 @@ test("a response is the sum of its terms, by the lines of explain or by the equa
   }
 });
 
+const BACKGROUND = `thread h priority 2 period 8 deadline 8 jitter 0 cost 5 blocking 2 response 7
+blocked h by client in q.set ticks 2
+slack h deadline 1 separation 1
+client client priority 1 cost 12
+ceiling q 2
+server log ceiling 1
+utilisation 625
+`;
+
+test("the lines of a design with background objects: a client blocks, and is no thread", () => {
+  const { threads, clients, ceilings, servers } = readExplanation(BACKGROUND);
+  assert.deepEqual(threads.map(({ name, blocked }) => [name, blocked]), [["h", { by: "client", inside: "q.set", ticks: 2 }]]);
+  assert.deepEqual(clients, [{ name: "client", priority: 1, cost: 12 }]);
+  assert.deepEqual([ceilings, servers], [[{ name: "q", ceiling: 2 }], [{ name: "log", ceiling: 1 }]]);
+  assert.equal(wrongSums(threads), null);
+});
+
 test("the jitter of a thread above counts: within 8 ticks one of period 10 whose jitter is 3 comes twice", () => {
   const { threads } = readExplanation(TWO.replace("jitter 0", "jitter 3"));
   assert.equal(partsOf(threads[1], threads).delays[0].times, 2);

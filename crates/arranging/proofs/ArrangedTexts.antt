@@ -14,7 +14,7 @@ use Rattle.guarantee.specs.Programs.{head, program_for}
 use Rattle.law_lists.proofs.Shared.Lists.{IsIn, place-of}
 use Rattle.law_designs.specs.Rankings.{IsRanking}
 use Rattle.law_designs.proofs.Shared.Lists.{from-map}
-use Rattle.law_designs.proofs.Shared.RankRanges.{ranked-range, ranked-ceiling-range}
+use Rattle.law_designs.proofs.Shared.RankRanges.{ranked-ceiling-range}
 use Rattle.law_orders.specs.Orders.{IsOrder, priorities_by, rows_by}
 use Rattle.law_orders.proofs.Shared.OrderPlaces.{order-within}
 use Rattle.law_orders.proofs.Shared.OrderRankings.{order-ranking}
@@ -53,7 +53,7 @@ module _ (f : Flat) (o : List ℕ) (order : IsOrder f o) where
     pub threads-small : (ns : List ℕ) → ns ≡ ps → EachIndex ns (λ k. slice_index ns k + (first - 1) ≤ 60)
     threads-small ns e =
         subst (λ zs. EachIndex zs (λ k. slice_index zs k + (first - 1) ≤ 60)) (sym e)
-        (index-in (λ n. n + (first - 1) ≤ 60) ps (λ n h. let r = ranked-range f ps ranking n h in omega (arith, r.1, room)))
+        (index-in (λ n. n + (first - 1) ≤ 60) ps (λ n h. let k = place-of n ps h in let r = ranking.range k.0 n k.1 in omega (arith, r.1, room)))
 
     pub shared-small : (ns : List ℕ) → ns ≡ (ranks_for f ps).shared → EachIndex ns (λ k. slice_index ns k + (first - 1) ≤ 60)
     shared-small ns e =

@@ -1,6 +1,7 @@
 -- Examples of the text by an order that is found: worked for two threads that pass by another order than that of deadlines; and each definition
 -- holds of all its parts, and without one of them it doesn't.
 use Rattle.std.specs.Prelude.{◌≡◌, ℕ, ◌≤◌, ◌<◌, ◌++◌, List, [], ◌∷◌, length, Ok, Err, codes, refl}
+use Rattle.std.specs.Fmt.{digits}
 use Rattle.std.proofs.Common.{lit≤, arith}
 use Rattle.seq_tree.specs.Statements.{Work}
 use Rattle.seq_tree.specs.Limits.{ada_limit}
@@ -33,6 +34,7 @@ bounds = record { jitter = 12; response = 5 } ∷ record { jitter = 0; response 
 first_lines : head jittered (written_ranks 31 (ranks_for jittered (priorities_by jittered (0 ∷ 1 ∷ []))))
     (table_for jittered (priorities_by jittered (0 ∷ 1 ∷ []))).places bounds
     ≡ codes "-- design d\n-- thread a priority 32 jitter 12 response 5 deadline 20\n-- thread b priority 31 jitter 0 response 15 deadline 15\n"
+unfolding digits
 first_lines = refl
 
 -- after the head comes the program by it

@@ -34,8 +34,8 @@ export class Clock {
   }
 
   /** The ticks of a time as it is shown, rounded. */
-  ticks(/** @type {number} */ told) {
-    return Math.round(this.microseconds === null ? told : (told * 1000) / this.microseconds);
+  ticks(/** @type {number} */ shown) {
+    return Math.round(this.microseconds === null ? shown : (shown * 1000) / this.microseconds);
   }
 
   /** A time with its unit where that isn't ticks. */

@@ -314,7 +314,7 @@ export class Report {
     return htmlTable({ id: `run_${place + 1}`, caption: `The whole trace, up to ${this.timesOf(trace.last)}; times in ticks`, heads, rows, words: [0, 1] });
   }
 
-  /** A chart of a window, in milliseconds where the design tells them. */
+  /** A chart of a window, in milliseconds where the design has a TICK. */
   chart(trace, from, to, words, id) {
     if (trace.countBetween(from, to) > MOST_EVENTS) return null;
     const clock = this.clocks[this.clocks.length - 1];

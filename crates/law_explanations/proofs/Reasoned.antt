@@ -9,7 +9,7 @@ use Rattle.analysis.specs.Priorities.{priorities_of}
 use Rattle.analysis.specs.Tables.{downwards, row_at, row_of, table}
 use Rattle.block_causes.specs.Causes.{cause}
 use Rattle.law_lists.proofs.Shared.Places.{all-at, map-at, same-item, zip-at}
-use Rattle.law_designs.proofs.Shared.TabledPrograms.{has-at}
+use Rattle.law_designs.proofs.Shared.Lists.{has-at}
 use Rattle.law_orders.proofs.Shared.DeadlineOrders.{order-at, order-count, priority-there}
 use Rattle.law_orders.proofs.Shared.OrderRows.{all-made-at}
 use Rattle.design_bounds.proofs.Shared.TablePlaces.{places-stand, rows-long}

@@ -1,4 +1,4 @@
-#!/usr/bin/env bash
+# shellcheck shell=sh
 # An emulated machine of one processor that runs one program. Scripts read this with `.`, after needs.sh; `here` is the folder of both.
 
 # in_machine TARGET KERNEL PROGRAM: runs PROGRAM as the only process of a machine with this kernel, and writes the lines of its run. The clock of the

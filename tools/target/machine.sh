@@ -16,6 +16,7 @@ in_machine() {
     esac
     emulator=qemu-system-$(processor_of "$1") image=$2
     shift 3
+    # shellcheck disable=SC3045  # the shells of Debian have limits of processor time
     (ulimit -t 300 && exec timeout 7200 "$emulator" "$@" -smp 1 -m 256 -icount shift=3,sleep=off -kernel "$image" -initrd initramfs \
         -nographic -no-reboot -net none) </dev/null >console 2>console.errors || {
         echo "$emulator failed: $(tail -n 1 console.errors)" >&2

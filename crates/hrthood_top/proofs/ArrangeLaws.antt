@@ -157,6 +157,7 @@ one bytes Long (Unordered q) h k = absurd (ordered-or-long bytes q k h)
 one bytes Long Long h k = refl
 
 can_make : (bytes made : List ℕ) → IsArrangedFor bytes made → CanArrange bytes
+unfolding can-search
 can_make bytes made w = record {
   search = can-search bytes w.design w.order w.bounds (taken-of bytes w.design w.reads w.meets) w.arranged;
   short = λ order bounds a.

@@ -137,7 +137,7 @@ module _ (written x : Design) (met : AreMet written x) (w : Name → ℕ → ℕ
       = ap length (threads-same w x) ∙ length-map (thread_objects x) (reworked_object w) in
       let all : length (objects new) ≡ length (objects x) = ap length (objects-same w x) ∙ length-map (objects x) (standing w) in (
         within-limit (thread_limit (stated_priorities x)) (length (thread_objects new)) (V15Threads (length (thread_objects new)))
-        (ap (nat_lt (thread_limit (stated_priorities x))) threads ∙ thread-count written x met),
+            (ap (nat_lt (thread_limit (stated_priorities x))) threads ∙ thread-count written x met),
         within-limit 500 (length (objects new)) (V15Objects (length (objects new))) (ap (nat_lt 500) all ∙ object-count written x met),
       )
 

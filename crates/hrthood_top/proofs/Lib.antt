@@ -39,3 +39,4 @@ pub mod RunsDone
 pub mod Tracing
 mod ArrangeLaws
 mod ArrangedReplaying
+mod ScaledAgain

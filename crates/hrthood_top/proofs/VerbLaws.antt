@@ -79,7 +79,7 @@ none-too-long t [] file back texts h k = not-too-long t file (texts file.kind) h
 none-too-long t (f ∷ front) file back texts h k = none-too-long t front file back texts h.1 k
 
 -- files that are held, of a list that has one too long
-not-over : (t : Told) (v : Verb) (front : List File) (file : File) (texts : Texts) → Refuses t v (TooLong front file) → HoldsAll t v.files texts → ⊥
+pub not-over : (t : Told) (v : Verb) (front : List File) (file : File) (texts : Texts) → Refuses t v (TooLong front file) → HoldsAll t v.files texts → ⊥
 not-over t v front file texts h k =
     let H : List File → Type 0 = λ fs. HoldsAll t fs texts in none-too-long t front file h.0 texts (subst H h.1 k) h.4
 

@@ -105,7 +105,7 @@ module _ (design arrivals trace : List ℕ) (n : ℕ) (yes : IsAcceptedSo design
   ends-with-yes u v status.NoMemory e h = tt
 
 -- how a command ends is how its verb does
-ends-verb : (ended : Status) (c : Command) (u v : Outside) → Ends ended (Some c) u v → EndsVerb ended (verb_of c) u v
+pub ends-verb : (ended : Status) (c : Command) (u v : Outside) → Ends ended (Some c) u v → EndsVerb ended (verb_of c) u v
 ends-verb status.Done c u v h = h
 ends-verb status.Refused c u v h = h
 ends-verb status.Usage c u v h = h

@@ -22,6 +22,7 @@ pub mod Ends
 pub mod Runs
 pub mod Exact
 pub mod TwoRuns
+pub mod ScaledRuns
 pub mod Fetches
 pub mod Streaming
 pub mod Writing

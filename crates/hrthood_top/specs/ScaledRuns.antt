@@ -1,22 +1,27 @@
 -- Two runs: the first tells the margin of a design, and the second makes the Ada text of that design with its `work` scaled.
 -- What `scale` tells leads back to `generate`: up to the margin the scaled design is taken within the limit of its text, and at the next per
--- mille it is refused with the value over its limit that was told.
-use Rattle.std.specs.Prelude.{◌≡◌, ◌≤◌, ℕ, suc, List, length, codes, Some, ⊤}
+-- mille it is refused: with the value over its limit that was told, or for the cost of a body or a thread. Where two of them get too dear at one
+-- per mille, the line of this refusal may have the other one, since `generate` looks at them in the order of writing.
+use Rattle.std.specs.Prelude.{◌≡◌, ◌≤◌, ℕ, suc, List, length, Option, Some, ⊤}
 use Rattle.hood_io.specs.Causes.{Rose}
 use Rattle.hood_io.specs.Shelves.{Told}
 use Rattle.hood_io.specs.Sinks.{Appends}
 use Rattle.seq_tree.specs.Names.{Name}
 use Rattle.ods_tree.specs.Designs as designs
 use Rattle.ods_tree.specs.Reading.{Reads}
+use Rattle.design_rules.specs.Broken.{V15Cost}
+use Rattle.ods_index.specs.Told.{told_of}
+use Rattle.ods_index.specs.declared.broken.Broken as code
 use Rattle.rt_response.specs.declared.rows.Miss as rows
 use Rattle.law_scaling.specs.Designs.{scaled_design}
 use Rattle.scaling.specs.declared.margin.Margin.{Margin}
 use Rattle.scaling.specs.declared.margin.Next.TheVariants as next
 use Rattle.bridge.specs.Delivers.{IsTextFor, HasLongText}
+use Rattle.bridge.specs.declared.taking.Untaken.TheVariants.{Rule}
 use Rattle.hrthood_words.specs.declared.verbs.DesignVerb.TheVariants.{Generate}
 use Rattle.hrthood_words.specs.Words.{OnDesign, command_of}
 use Rattle.hrthood_top.specs.declared.file_kind.FileKind.TheVariants.{Design}
-use Rattle.hrthood_top.specs.declared.generate.GenerateRefusal.TheVariants.{Long}
+use Rattle.hrthood_top.specs.declared.generate.GenerateRefusal.TheVariants.{Untaken, Long}
 use Rattle.hrthood_top.specs.declared.status.Status.{Status}
 use Rattle.hrthood_top.specs.declared.status.Status.TheVariants.{Done, Refused, Usage, ReadFault, WriteFault, NoMemory}
 use Rattle.hrthood_top.specs.Ends.{Outside, Ends, TellsMessage}
@@ -50,6 +55,17 @@ EndsWithMiss thread miss WriteFault u v = ⊥
 EndsWithMiss thread miss NoMemory u v = ⊤
 EndsWithMiss thread miss Usage u v = ⊥
 
+-- with the line of a body or a thread that costs too much
+abbrev pub EndsWithCost : Status → Outside → Outside → Type 0
+EndsWithCost Done u v = ⊥
+EndsWithCost Refused u v =
+    (broken : code.Broken) × (object : Name) × (op : Option Name) × (told_of broken ≡ Some (V15Cost object op))
+    × TellsMessage u v (generate_line (Untaken (Rule broken)))
+EndsWithCost ReadFault u v = Rose u.read_faults v.read_faults
+EndsWithCost WriteFault u v = ⊥
+EndsWithCost NoMemory u v = ⊤
+EndsWithCost Usage u v = ⊥
+
 -- lines of a margin of the design in a file of a shelf, that lead back
 pub record LeadsBack (t : Told) (d written : List ℕ) : Type 0 where
   pub bytes : List ℕ
@@ -58,6 +74,9 @@ pub record LeadsBack (t : Told) (d written : List ℕ) : Type 0 where
   pub reads : Reads bytes design
   pub margin : Margin
   pub told : written ≡ margin_lines margin
-  pub within : (k : ℕ) (more : List ℕ) → 1 ≤ k → k ≤ margin.per_mille → Reads more (scaled_design k design) → Generates more (EndsWithText more)
+  pub within : (k : ℕ) (more : List ℕ) → 1 ≤ k → k ≤ margin.per_mille → Reads more (scaled_design k design)
+      → Generates more (EndsWithText more)
   pub beyond : (thread : Name) (miss : rows.Miss) (more : List ℕ) → margin.next ≡ next.Miss thread miss
       → Reads more (scaled_design (suc margin.per_mille) design) → Generates more (EndsWithMiss thread miss)
+  pub dear : (name : Name) (part : Option Name) (more : List ℕ) → margin.next ≡ next.Cost name part
+      → Reads more (scaled_design (suc margin.per_mille) design) → Generates more EndsWithCost

@@ -63,6 +63,6 @@ pub use thread_names::ThreadNames;
 pub use toolset::{run, run_plain};
 pub use two_runs::{
     arranged_text_replays, background_text_replays, generated_text_replays,
-    verified_trace_is_accepted,
+    scaled_design_generates, verified_trace_is_accepted,
 };
 pub use verify::VerifyRefusal;

@@ -1,8 +1,9 @@
 ghost use Rattle.std.specs.Prelude.{◌≡◌, ℕ, List, Some};
 ghost use Rattle.hood_io.specs.Shelves.{Told};
-ghost use Rattle.hrthood_words.specs.declared.verbs.DesignVerb.TheVariants.{Arrange, Background, Generate};
+ghost use Rattle.hrthood_words.specs.declared.verbs.DesignVerb.TheVariants.{Arrange, Background, Generate, Scale};
 ghost use Rattle.hrthood_words.specs.Words.{OnDesign, Replay, Verify};
 ghost use Rattle.hrthood_top.specs.Ends.{Outside};
+ghost use Rattle.hrthood_top.specs.ScaledRuns.{LeadsBack};
 ghost use Rattle.hrthood_top.specs.TwoRuns.{IsDone, IsRightArrangedReplay, IsRightBackgroundReplay, IsRightReplay, IsVerifiedTrace};
 
 /// What `replay` writes of a text that `generate` wrote is the trace of a run that the design allows, within its bounds.
@@ -47,4 +48,15 @@ pub fn arranged_text_replays()
     ensures { (words others : List (List ℕ)) (d a r text written : List ℕ) (x y u v : Outside) (t s : Told)
         → IsDone words (OnDesign Arrange d) x y t text → IsDone others (Replay a r) u v s written → s.files a ≡ Some text
         → IsRightArrangedReplay t s d r text written }
+{}
+
+/// What `scale` tells of a design leads back to `generate`.
+///
+/// The two runs are apart: of the first only the per mille comes to the second, whose file has any text of the design with all its `work` at so
+/// many per mille and the greatest budgets, within the limit of its files. However the second run ends, up to the margin that was told it
+/// refuses only since the Ada text is too long. At one per mille more it is never done: where the first told a value over its limit, its
+/// refusal has this value, and where it told a body or a thread that costs too much, its refusal is for one that does.
+pub fn scaled_design_generates()
+    ensures { (words : List (List ℕ)) (d written : List ℕ) (x y : Outside) (t : Told)
+        → IsDone words (OnDesign Scale d) x y t written → LeadsBack t d written }
 {}

@@ -26,6 +26,7 @@ mod VerdictExamples
 mod SearchVerbExamples
 mod ScaleVerbExamples
 mod YesExamples
+mod ScaledRunExamples
 mod BackgroundOfExamples
 mod EventNumberExamples
 mod ArrivalAnswers

@@ -1,6 +1,6 @@
--- Two runs: the first tells the margin of a design, and the second makes the Ada text of that design with its `work` scaled.
--- What `scale` tells leads back to `generate`: up to the margin the scaled design is taken within the limit of its text, and at the next per
--- mille it is refused: with the value over its limit that was told, or for the cost of a body or a thread. Where two of them get too dear at one
+-- Two runs: the first reports the margin of a design, and the second makes the Ada text of that design with its `work` scaled.
+-- What `scale` reports leads back to `generate`: up to the margin the scaled design is taken within the limit of its text, and at the next per
+-- mille it is refused: with the value over its limit that was reported, or for the cost of a body or a thread. Where two of them get too dear at one
 -- per mille, the line of this refusal may have the other one, since `generate` looks at them in the order of writing.
 use Rattle.std.specs.Prelude.{◌≡◌, ◌≤◌, ℕ, suc, List, length, Option, Some, ⊤}
 use Rattle.hood_io.specs.Causes.{Rose}

@@ -50,12 +50,12 @@ pub fn arranged_text_replays()
         → IsRightArrangedReplay t s d r text written }
 {}
 
-/// What `scale` tells of a design leads back to `generate`.
+/// What `scale` reports of a design leads back to `generate`.
 ///
 /// The two runs are apart: of the first only the per mille comes to the second, whose file has any text of the design with all its `work` at so
-/// many per mille and the greatest budgets, within the limit of its files. However the second run ends, up to the margin that was told it
-/// refuses only since the Ada text is too long. At one per mille more it is never done: where the first told a value over its limit, its
-/// refusal has this value, and where it told a body or a thread that costs too much, its refusal is for one that does.
+/// many per mille and the greatest budgets, within the limit of its files. However the second run ends, up to the margin that was reported it
+/// refuses only since the Ada text is too long. At one per mille more it is never done: where the first reported a value over its limit, its
+/// refusal has this value, and where it reported a body or a thread that costs too much, its refusal is for one that does.
 pub fn scaled_design_generates()
     ensures { (words : List (List ℕ)) (d written : List ℕ) (x y : Outside) (t : Told)
         → IsDone words (OnDesign Scale d) x y t written → LeadsBack t d written }

@@ -17,7 +17,11 @@
 //! - `RightReplays`: what is told by the program that a text is accepted as, where the text is that of a design.
 #![tactic(auto)]
 
-ghost use Rattle.std.specs.Prelude.{ℕ};
+ghost use Rattle.std.specs.Prelude.{◌≡◌, ℕ, List};
+ghost use Rattle.ada_tree.specs.Programs.{Program};
+ghost use Rattle.ada_tree.specs.Reading.{Accepts};
+ghost use Rattle.ods_tree.specs.Designs.{Design};
+ghost use Rattle.ods_tree.specs.Reading.{Reads};
 ghost use Rattle.law_replays.specs.Laws.{BackgroundReplayIsRight, BackgroundTextReplaysRight};
 
 mod replays;
@@ -43,4 +47,14 @@ pub fn background_replay_is_right()
 /// bytes. `limit` is the farthest horizon allowed, in ticks.
 pub fn background_text_replays_right()
     ensures { (limit : ℕ) → BackgroundTextReplaysRight limit }
+{}
+
+/// The bytes of a text are one design at most: `check` and every other verb of a design speak of this one.
+pub fn bytes_are_one_design()
+    ensures { (bytes : List ℕ) (x y : Design) → Reads bytes x → Reads bytes y → x ≡ y }
+{}
+
+/// A text is accepted as one program at most, whatever design it was made of.
+pub fn texts_are_one_program()
+    ensures { (text : List ℕ) (p q : Program) → Accepts text p → Accepts text q → p ≡ q }
 {}

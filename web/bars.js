@@ -2,7 +2,7 @@
 // chains of requests, as bars behind one another.
 import { TICKS } from "./clock.js";
 import { chainBounds, partsOf, slackOf, spareOf, termsOf } from "./explanation.js";
-import { draw, fillBy, group, short, textAt, widthOf } from "./markup.js";
+import { draw, fillBy, group, textAt, widthOf, within } from "./markup.js";
 
 const HUES = 12; // of threads, as in bars.css
 const ROW = 44; // pixels of height, without the lines of the sum
@@ -141,8 +141,8 @@ export class Bars {
     const pixels = this.pixelsOf(thread);
     const { name, priority, deadline, response } = thread;
     const due = this.left + Math.min(deadline * pixels, this.room);
-    if (this.isNarrow) made.append(textAt(this.left, y - 5, `${short(name, 26)}, priority ${priority}`, "name"));
-    else made.append(textAt(this.left - 12, y + 13, short(name, 22), "name right"), textAt(this.left - 12, y + 27, `priority ${priority}`, "small right"));
+    if (this.isNarrow) made.append(this.nameAbove("", name, `, priority ${priority}`, y - 5, this.lateness(thread).words));
+    else made.append(this.nameBeside("", name, y + 13), textAt(this.left - 12, y + 27, `priority ${priority}`, "small right"));
     const isDue = this.scale !== "response" || response === null || response > deadline;
     const title = `deadline ${this.clock.time(deadline)}`;
     if (isDue) made.append(draw("rect", { class: "deadline", x: this.left, y, width: due - this.left, height: BAR, rx: 3 }, title));
@@ -171,18 +171,35 @@ export class Bars {
     return x;
   }
 
+  /** A name above its bar, cut where what is beside it needs the room: what follows it, and words at the right edge. */
+  nameAbove(before, name, after, y, beside) {
+    const room = this.room - widthOf(before + after, 12, true) - widthOf(beside, 10) - 8;
+    return textAt(this.left, y, `${before}${within(name, room, 12, true)}${after}`, "name");
+  }
+
+  /** A name at the left of its bar, cut at the edge of the picture. */
+  nameBeside(before, name, y) {
+    return textAt(this.left - 12, y, before + within(name, this.left - 16 - widthOf(before, 12, true), 12, true), "name right");
+  }
+
+  /** How late a thread is, or its slack: by its deadline, by its period if it is over that, and which of them a narrow picture has. */
+  lateness(thread) {
+    const { clock } = this;
+    const [slack, spare] = [slackOf(thread), spareOf(thread)];
+    const isLate = slack === null || slack < 0;
+    const told = slack === null ? "given up" : isLate ? `late by ${clock.span(-slack)}` : `slack ${clock.span(slack)} (${shareOf(slack, thread.deadline)})`;
+    const more = spare !== null && spare < 0 ? `over its period by ${clock.span(-spare)}` : null;
+    return { isLate, told, more, words: more ?? told };
+  }
+
   /** The response and the slack, or how late it is, behind the bar; in a narrow picture above it. */
   drawNumbers(made, thread, y, end) {
     const { clock } = this;
     const { deadline, response } = thread;
-    const spare = slackOf(thread);
-    const isLate = spare === null || spare < 0;
-    const told = spare === null ? "given up" : isLate ? `late by ${clock.span(-spare)}` : `slack ${clock.span(spare)} (${shareOf(spare, deadline)})`;
+    const { isLate, told, more, words } = this.lateness(thread);
     const of = response === null ? `deadline ${clock.number(deadline)}` : `${clock.number(response)} of ${clock.number(deadline)}`;
-    const missed = spareOf(thread);
-    const more = missed !== null && missed < 0 ? `over its period by ${clock.span(-missed)}` : null;
     if (this.isNarrow) {
-      made.append(textAt(this.width - 12, y - 5, more ?? told, isLate || more !== null ? "small bad right" : "small right"));
+      made.append(textAt(this.width - 12, y - 5, words, isLate || more !== null ? "small bad right" : "small right"));
       return;
     }
     const x = this.scale === "ticks" ? Math.min(Math.max(end + 10, this.left + 120), this.width - NUMBERS + 10) : Math.min(end, this.left + this.room) + 10;
@@ -200,8 +217,8 @@ export class Bars {
     const y = this.isNarrow ? top + 18 : top;
     const pixels = this.room / (this.scale === "ticks" ? this.longest : Math.max(whole, chain.response));
     const made = group({ class: "row chain", "data-chain": chain.name });
-    if (this.isNarrow) made.append(textAt(this.left, y - 5, `to ${short(chain.name, 26)}: ${clock.span(chain.response)}`, "name"));
-    else made.append(textAt(this.left - 12, y + 15, `to ${short(chain.name, 20)}`, "name right"));
+    if (this.isNarrow) made.append(this.nameAbove("to ", chain.name, `: ${clock.span(chain.response)}`, y - 5, ""));
+    else made.append(this.nameBeside("to ", chain.name, y + 15));
     let x = this.left;
     for (const link of links) {
       const width = (link.response ?? 0) * pixels;

@@ -13,9 +13,9 @@ function timesAre(clock, tick) {
   return tick === null ? "Times are ticks." : `Times are ticks of ${tick}.`;
 }
 
-/** Of what a response is made: cost, blocking, and what each thread of greater priority takes. Empty where that is not its sum. */
-function whyOf(thread, threads, clock) {
-  return partsOf(thread, threads).isSum ? termsOf(thread, threads, clock).join(" + ") : "";
+/** The terms of a response as a sum, of which none is broken over lines. */
+function sumOf(thread, threads, clock) {
+  return termsOf(thread, threads, clock).flatMap((term, place) => [...(place === 0 ? [] : [" + "]), make("span", { class: "term" }, term)]);
 }
 
 function cellOf(text, attributes = {}) {
@@ -62,9 +62,9 @@ function glossary(response) {
 
 /** Of what each response is made, where it is the sum of that. */
 function whyList(threads, clock) {
-  const items = threads.map((one) => [one, whyOf(one, threads, clock)]).filter(([, why]) => why !== "");
+  const found = threads.filter((one) => partsOf(one, threads).isSum);
   return make("ul", { class: "why", "aria-label": "Of what each response is made" },
-    ...items.map(([one, why]) => make("li", {}, make("b", {}, `${one.name} ${clock.number(one.response)}`), ` = ${why}`)));
+    ...found.map((one) => make("li", {}, make("b", {}, `${one.name} ${clock.number(one.response)}`), " = ", ...sumOf(one, threads, clock))));
 }
 
 function ceilingTable(ceilings) {

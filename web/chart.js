@@ -1,6 +1,6 @@
 // Draws a run as SVG, in a window of its time. Who runs is told by traces.js.
 import { TICKS } from "./clock.js";
-import { draw, fillBy, short, textAt } from "./markup.js";
+import { draw, fillBy, group, textAt, widthOf, within } from "./markup.js";
 
 const COLOURS = 12; // of objects, as in chart.css
 
@@ -120,31 +120,45 @@ class Frame {
     return start < end ? [this.x(start), this.x(end) - this.x(start)] : null;
   }
 
-  drawGrid() {
+  /** The times above the lanes. */
+  gridTimes() {
     const step = this.clock.step(50 / this.scale);
-    for (let time = Math.ceil(this.start / step) * step; time <= this.end; time += step) {
+    const first = Math.ceil(this.start / step);
+    return Array.from({ length: Math.max(0, Math.floor(this.end / step) - first + 1) }, (_, index) => (first + index) * step);
+  }
+
+  drawGrid() {
+    for (const time of this.gridTimes()) {
       this.canvas.path("grid", `M${this.x(time)} ${TOP}V${this.bottom}`);
       this.canvas.text(this.x(time), TOP - 5, this.clock.number(time), "small middle");
     }
   }
 
+  /** The heights at which lanes end. */
+  laneEnds() {
+    const objects = this.objects.map((_, index) => this.bottom - OBJECT_LANE * (this.objects.length - 1 - index));
+    return [...this.tasks.map((_, index) => TOP + LANE * (index + 1)), ...objects];
+  }
+
   drawNames() {
-    const most = this.left < 150 ? 15 : 24;
+    const isNarrow = this.left < 150;
     for (const task of this.tasks) {
       const y = this.base.get(task.name);
       this.canvas.path("base", `M${this.left} ${y}H${this.x(this.end)}`);
-      this.canvas.text(8, y - 20, short(task.name, most), "name");
-      const span = task.period === null || most < 20 ? "" : `, ${task.isCyclic ? "period" : "separation"} ${this.clock.time(task.period)}`;
+      this.canvas.text(8, y - 20, within(task.name, this.left - 14, 12, true), "name");
+      const span = task.period === null || isNarrow ? "" : `, ${task.isCyclic ? "period" : "separation"} ${this.clock.time(task.period)}`;
       this.canvas.text(8, y - 7, `priority ${task.priority}${span}`, "small");
       const known = [["deadline", task.deadline], ...(task.limit === "bound" ? [["bound", task.bound]] : [])].filter(([, ticks]) => ticks !== null);
-      const limits = most < 20 ? known.slice(-1) : known;
+      const limits = isNarrow ? known.slice(-1) : known;
       this.canvas.text(8, y + 5, limits.map(([what, ticks]) => `${what} ${this.clock.time(ticks)}`).join(", "), "small");
     }
     for (const name of this.objects) {
       const y = this.objectBase.get(name);
       this.canvas.path("faint", `M${this.left} ${y}H${this.x(this.end)}`);
-      this.canvas.text(8, y - 3, short(name, most - 6) + (this.program.tasks.has(name) ? " requests" : ""), "small");
-      this.canvas.text(this.left - 8, y - 3, `${most < 20 ? "" : "ceiling "}${this.program.ceilings.get(name)}`, "small right");
+      const ceiling = `${isNarrow ? "" : "ceiling "}${this.program.ceilings.get(name)}`;
+      const kind = this.program.tasks.has(name) ? " requests" : "";
+      this.canvas.text(8, y - 3, within(name, this.left - 24 - widthOf(kind + ceiling, 10), 10) + kind, "small");
+      this.canvas.text(this.left - 8, y - 3, ceiling, "small right");
     }
   }
 }
@@ -187,9 +201,36 @@ export class Chart extends Frame {
     return this.canvas.marks;
   }
 
-  draw() {
+  /** What the picture is of. */
+  name() {
     const window = `from ${this.clock.unit === "ticks" ? "tick " : ""}${this.clock.number(this.start)} to ${this.clock.time(this.end)}`;
-    return pictureOf(this.width, this.bottom + 14, `Who runs ${window}; the list below tells the same`, ...this.drawMarks());
+    return `Who runs ${window}; the list below tells the same`;
+  }
+
+  draw() {
+    return pictureOf(this.width, this.bottom + 14, this.name(), ...this.drawMarks());
+  }
+
+  /** The picture in parts of at most so many pixels of height, with whole lanes below the same times, so that each fits on a page. */
+  drawPages(most) {
+    if (this.bottom + 14 <= most) return [this.draw()];
+    const cuts = [TOP];
+    const ends = this.laneEnds();
+    ends.forEach((end, index) => {
+      if (end - cuts.at(-1) + TOP + 14 > most && index > 0) cuts.push(ends[index - 1]);
+    });
+    const marks = this.drawMarks();
+    return cuts.map((from, place) => this.drawPage(marks, from, cuts[place + 1] ?? this.bottom, place));
+  }
+
+  /** The part of the picture from one height to another. */
+  drawPage(marks, from, to, place) {
+    const height = TOP + to - from + 14;
+    const isIn = (mark) => !["text", "rect"].includes(mark.name) || (from < Number(mark.get("y")) && Number(mark.get("y")) <= to);
+    const times = this.gridTimes().map((time) => textAt(this.x(time), TOP - 5, this.clock.number(time), "small middle"));
+    const covers = [[0, TOP], [height - 14, 14]].map(([y, tall]) => draw("rect", { class: "paper", y, width: this.width, height: tall }));
+    const lanes = group({ transform: `translate(0 ${TOP - from})` }, ...marks.filter(isIn));
+    return pictureOf(this.width, height, `${this.name()}, part ${place + 1}`, lanes, ...covers, ...times);
   }
 
   drawBounds() {

@@ -54,8 +54,8 @@ function explainedList({ threads }, clock) {
     if (one.blocked !== null) parts.push(`blocked by ${one.blocked.by} in ${one.blocked.inside} for ${clock.span(one.blocked.ticks)}`);
     if (one.beyond !== null) parts.push("given up, as its response is over ten times its limit");
     if (one.behind !== null) parts.push(`given up behind ${one.behind}`);
-    if (one.response !== null) parts.push(`${clock.number(one.response)} = ${termsOf(one, threads, clock).join(" + ")}`);
-    return make("li", { class: isLate(one) ? "late" : "" }, make("b", {}, one.name), ` ${parts.join("; ")}`);
+    const sum = one.response === null ? [] : [parts.length === 0 ? "" : "; ", `${clock.number(one.response)} = `, ...sumOf(one, threads, clock)];
+    return make("li", { class: isLate(one) ? "late" : "" }, make("b", {}, one.name), ` ${parts.join("; ")}`, ...sum);
   });
   return make("ul", { class: "why", "aria-label": "Of what each response is made" }, ...items);
 }

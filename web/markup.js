@@ -107,6 +107,13 @@ export function short(/** @type {string} */ name, /** @type {number} */ most) {
   return name.length <= most ? name : `${name.slice(0, most - 2)}..`;
 }
 
+/** A name that is cut where it is wider than so many pixels. */
+export function within(/** @type {string} */ name, /** @type {number} */ pixels, /** @type {number} */ size, isBold = false) {
+  let most = name.length;
+  while (most > 3 && widthOf(short(name, most), size, isBold) > pixels) most--;
+  return short(name, most);
+}
+
 // The widths of the signs from the space on, in thousandths of the size of DejaVu Sans, which is as wide as the fonts that stand in for it.
 const SIGNS = ("318 401 460 838 636 950 780 275 390 390 500 838 318 361 318 337 636 636 636 636 636 636 636 636 636 636 337 337 838 838 838 531 1000 "
   + "684 686 698 770 632 575 775 752 295 295 656 557 863 748 787 603 787 695 635 611 732 684 989 685 611 685 390 337 390 838 500 500 613 635 550 "

@@ -40,7 +40,7 @@ const WIDEST = 1300; // pixels of a whole diagram that stands alone
 const PAGE = 680; // pixels of the width of a page of paper, and of one across with its height
 const ACROSS = [1000, 600];
 const FINEST = 0.55; // by which a diagram is made smaller at most on paper, which shows more than a screen
-const TALLEST = 1300; // pixels of bars on one page
+const TALLEST = 1300; // pixels of bars, or of a chart, on one page
 const MOST_TEXT = 200000; // characters of a text that stands in the report
 const MOST_LINES = 1500000; // of a trace, of which a chart is made
 const FIRST_EVENTS = 90;
@@ -295,9 +295,9 @@ export class Report {
     }
     const first = Math.max(1, trace.events[Math.min(FIRST_EVENTS, trace.events.length - 1)].time);
     const words = `The arrivals are one case of all that the bounds cover. The trace has ${lines.length} lines.`;
-    const [opening, closest] = [this.chart(trace, 0, first, "From its beginning", id), this.closest(trace, first, `${id}-near`)];
-    return htmlOf("section", { id }, htmlOf("div", { class: "lead" }, htmlOf("h2", {}, head), htmlOf("p", {}, words), opening ?? ""), closest ?? "", this.legend(id),
-      this.totals(trace, place));
+    const [opening, ...more] = this.charts(trace, 0, first, "From its beginning", id);
+    return htmlOf("section", { id }, htmlOf("div", { class: "lead" }, htmlOf("h2", {}, head), htmlOf("p", {}, words), opening ?? ""), ...more,
+      ...this.closest(trace, first, `${id}-near`), this.legend(id), this.totals(trace, place));
   }
 
   legend(id) {
@@ -314,15 +314,17 @@ export class Report {
     return htmlTable({ id: `run_${place + 1}`, caption: `The whole trace, up to ${this.timesOf(trace.last)}; times in ticks`, heads, rows, words: [0, 1] });
   }
 
-  /** A chart of a window, in milliseconds where the design has a TICK. */
-  chart(trace, from, to, words, id) {
-    if (trace.countBetween(from, to) > MOST_EVENTS) return null;
+  /** The charts of a window, as many as pages have room for, in milliseconds where the design has a TICK. */
+  charts(trace, from, to, words, id) {
+    if (trace.countBetween(from, to) > MOST_EVENTS) return [];
     const clock = this.clocks[this.clocks.length - 1];
     const window = `${words}: ${clock.number(from)} to ${clock.span(to)} of ${clock.number(trace.last)}.`;
     try {
-      return figureOf(withNames(new Chart(new Run(trace, from, to), WIDTH, { clock }).draw(), id), window, "run");
+      const parts = new Chart(new Run(trace, from, to), WIDTH, { clock }).drawPages(TALLEST);
+      const partOf = (place) => (parts.length === 1 ? "" : ` Part ${place + 1} of ${parts.length}.`);
+      return parts.map((picture, place) => figureOf(withNames(picture, `${id}-${place + 1}`), `${window}${partOf(place)}`, "run tall"));
     } catch (fault) {
-      return htmlOf("p", { class: "note" }, `Ticks ${from} to ${to} can't be drawn: ${fault.message}.`);
+      return [htmlOf("p", { class: "note" }, `Ticks ${from} to ${to} can't be drawn: ${fault.message}.`)];
     }
   }
 
@@ -334,12 +336,12 @@ export class Report {
       const share = one.response() / one.task.bound;
       if (best === null || share > best.share) best = { share, one };
     }
-    if (best === null || best.one.end <= drawn) return null;
+    if (best === null || best.one.end <= drawn) return [];
     const { task, release, end } = best.one;
     const room = Math.max(10, Math.round(task.bound / 4));
     const words = `Nearest to its bound came ${task.name}, released at ${this.timesOf(release)}, with a response of ${this.timesOf(end - release)} of `
       + `${this.timesOf(task.bound)}`;
-    return this.chart(trace, Math.max(0, release - room), Math.min(trace.last, release + task.bound + room), words, id);
+    return this.charts(trace, Math.max(0, release - room), Math.min(trace.last, release + task.bound + room), words, id);
   }
 
   // ---- What went in ----

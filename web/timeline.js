@@ -193,7 +193,7 @@ class Timeline {
       this.run = isFar ? null : new Run(this.trace, this.from, this.to);
       const { clock } = this;
       this.drawn = isFar ? new Heights(this.trace, this.from, this.to, width, clock).draw() : new Chart(this.run, width, { clock }).draw();
-      if (this.simulated !== null) this.drawn.append(textAt(8, 14, "simulated, no promise", "small bad"));
+      if (this.simulated !== null) this.drawn.append(textAt(8, 30, "simulated, no promise", "small bad"));
       this.holder.innerHTML = this.drawn.write();
       this.note.textContent = isFar ? farWords(this.limit()) : NEAR;
       this.legend.hidden = isFar;

@@ -234,7 +234,7 @@ class VerbTab {
       make("p", {}, make("b", {}, ...withWords(head))),
       ...why,
       make("p", {}, ...withWords(isOther ? NO_MACHINE : withTabs(hint))),
-      make("pre", { class: "text" }, line),
+      make("pre", { class: "text told" }, line),
     ];
   }
 }

@@ -81,9 +81,9 @@ const ARRANGED: &[&str] = &[
 const HEADS: &[&str] = &[
     "name: the same with priorities from 31 on
     head: TICK = 1 ms; PRIORITIES 31 .. 60;
-    children: OBJECT s IS SPORADIC ATTRIBUTES SEPARATION = 20; DEADLINE = 20; THREAD_BUDGET = 1000; ARRIVAL_JITTER = 12; \
+    root: OBJECT r IS ACTIVE OBJECTS OBJECT s IS SPORADIC ATTRIBUTES SEPARATION = 20; DEADLINE = 20; THREAD_BUDGET = 1000; ARRIVAL_JITTER = 12; \
         PROVIDES start (v : in word) ASER; THREAD work (4); END THREAD; END s; OBJECT c IS CYCLIC ATTRIBUTES PERIOD = 15; DEADLINE = 15; \
-        THREAD_BUDGET = 1000; THREAD work (4); END THREAD; END c;
+        THREAD_BUDGET = 1000; THREAD work (4); END THREAD; END c; END r;
     out: -- design d
     out: -- thread s priority 32 jitter 12 response 5 deadline 20
     out: -- thread c priority 31 jitter 0 response 15 deadline 15

@@ -52,6 +52,9 @@ export async function tryWalk(page) {
     await fit(page);
     const lanes = await page.evaluate(`document.querySelector("#window svg")?.textContent ?? ""`);
     judge(lanes.includes("simulated, no promise") && lanes.includes(`deadline ${late.deadline}`) && !lanes.includes("bound"), `deadlines are no bounds: ${lanes.slice(0, 200)}`);
+    const marks = await page.evaluate(`document.querySelectorAll("#window svg .late-end").length`);
+    const simulated = await page.evaluate(`document.querySelector("#panel-timeline .simulated").textContent`);
+    judge(marks > 0 && simulated.includes(`The first late activation is that of ${late.name}, released at tick `), `the late end is in the first window: ${marks}, ${simulated}`);
     await click(page, "tab-diagram");
     same(await page.evaluate(`[...document.querySelectorAll("#diagram .fault[data-object]")].map((one) => one.dataset.object)`), [late.name], "the late thread is marked");
     await panelOf(page, "explain");

@@ -170,7 +170,7 @@ class Timeline {
   /** Which thread is late in a simulation, or that none is. */
   lateWords() {
     const late = this.firstLate();
-    if (late === undefined) return "No activation of this run is late: its arrivals are one case, and the bounds cover all of them.";
+    if (late === undefined) return "No activation of this run is late. Its arrivals are one case; Bounds has the responses over all arrivals.";
     const release = `${this.clock.unit === "ticks" ? "tick " : ""}${this.clock.time(late.release)}`;
     return `The first late activation is that of ${late.task.name}, released at ${release}.`;
   }

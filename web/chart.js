@@ -156,8 +156,10 @@ class Frame {
       const y = this.objectBase.get(name);
       this.canvas.path("faint", `M${this.left} ${y}H${this.x(this.end)}`);
       const ceiling = `${isNarrow ? "" : "ceiling "}${this.program.ceilings.get(name)}`;
-      const kind = this.program.tasks.has(name) ? " requests" : "";
-      this.canvas.text(8, y - 3, within(name, this.left - 24 - widthOf(kind + ceiling, 10), 10) + kind, "small");
+      const room = this.left - 20 - widthOf(ceiling, 10);
+      const whole = `${name} requests`;
+      const isWhole = this.program.tasks.has(name) && widthOf(whole, 10) <= room;
+      this.canvas.text(8, y - 3, isWhole ? whole : within(name, room, 10), "small");
       this.canvas.text(this.left - 8, y - 3, ceiling, "small right");
     }
   }

@@ -101,6 +101,8 @@ class Editor {
     this.area.focus();
     this.area.setSelectionRange(index, index + length);
     this.area.scrollTop = Math.max(0, (this.rowOf(index) - 4) * LINE);
+    const { offsetLeft, offsetWidth } = this.marks.querySelector("mark");
+    this.area.scrollLeft = Math.max(0, Math.min(offsetLeft - 24, offsetLeft + offsetWidth + 24 - this.area.clientWidth));
     this.follow();
   }
 }

@@ -147,10 +147,32 @@ class Timeline {
     }
     this.isCut = lines.length > MOST_LINES;
     if (isOther || before !== this.trace.last || this.to > this.trace.last) {
-      this.from = 0;
-      this.to = Math.max(1, this.trace.events[Math.min(FIRST_EVENTS, this.trace.events.length - 1)].time);
+      [this.from, this.to] = this.firstWindow();
     }
     this.build();
+  }
+
+  /** The first activation of a simulation that ends past its deadline, if any. */
+  firstLate() {
+    if (this.simulated === null) return undefined;
+    return this.trace.activations.find((one) => one.end !== null && one.task.bound !== null && one.response() > one.task.bound);
+  }
+
+  /** What is shown at first: the first events, or the first late activation of a simulation. */
+  firstWindow() {
+    const { events, last } = this.trace;
+    const late = this.firstLate();
+    if (late === undefined) return [0, Math.max(1, events[Math.min(FIRST_EVENTS, events.length - 1)].time)];
+    const room = Math.max(1, Math.round(late.response() / 10));
+    return [Math.max(0, late.release - room), Math.min(last, late.end + room)];
+  }
+
+  /** Which thread is late in a simulation, or that none is. */
+  lateWords() {
+    const late = this.firstLate();
+    if (late === undefined) return "No activation of this run is late. Its arrivals are one case; Bounds has the responses over all arrivals.";
+    const release = `${this.clock.unit === "ticks" ? "tick " : ""}${this.clock.time(late.release)}`;
+    return `The first late activation is that of ${late.task.name}, released at ${release}.`;
   }
 
   build() {
@@ -168,7 +190,7 @@ class Timeline {
     this.whole = make("span", {});
     const save = saveButton("timeline.svg", () => this.picture());
     const cut = this.isCut ? [make("p", { class: "note" }, `The timeline is of the first ${MOST_LINES} lines of the trace.`)] : [];
-    if (this.simulated !== null) cut.unshift(make("p", { class: "simulated" }, this.simulated.words));
+    if (this.simulated !== null) cut.unshift(make("p", { class: "simulated" }, `${this.simulated.words} ${this.lateWords()}`));
     this.legend = legend(this.limit());
     this.note = make("p", { class: "note" });
     this.totalsHolder = make("div", {}, this.totals());

@@ -23,7 +23,8 @@ function nextOf(next, perMille, clock) {
 function marginView(out) {
   const [, found, next] = /^scale (\d+)\nnext (.*)\n$/.exec(out);
   const perMille = Number(found);
-  const grows = `Each thread keeps its limits with all work at up to ${factorOf(perMille)} times what it is`;
+  const grows = perMille === 1000 ? "Each thread keeps its limits with all work as it is, and with no per mille more"
+    : `Each thread keeps its limits with all work at up to ${factorOf(perMille)} times what it is`;
   const shrinks = `Each thread keeps its limits only with all work at ${factorOf(perMille)} times what it is, or less`;
   return [
     make("p", {}, make("b", {}, `${perMille < 1000 ? shrinks : grows} (${perMille} per mille).`)),

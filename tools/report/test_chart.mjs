@@ -458,6 +458,22 @@ describe("pictures", () => {
     assert.ok(titlesOf(picture).includes("l: greatest response 12 of at most 10"));
   });
 
+  test("a chart of more lanes than a page has is drawn in parts, each lane in one of them, and all below the same times", () => {
+    const tasks = Array.from({ length: 30 }, (_, index) => [`task_${index}`, 30 - index, 90, 100]);
+    const trace = [...tasks.map(([name]) => `0 release ${name}`), ...tasks.map(([name], index) => `${index + 1} end ${name} used 1`), "40 horizon"].join(" / ");
+    const chart = new Chart(runOf(textOf(tasks), trace, 0, 40), 1000);
+    const pages = chart.drawPages(700);
+    const told = pages.map((page) => page.write());
+    told.forEach((page) => checkMarkup(page));
+    assert.deepEqual(told.flatMap((page) => [...page.matchAll(/class="name">(task_\d+)</g)].map(([, name]) => name)), tasks.map(([name]) => name));
+    assert.ok(pages.length === 3 && pages.every((page) => Number(page.get("height")) <= 700), `${pages.map((page) => page.get("height"))}`);
+    const timesOf = (page) => [...page.matchAll(/y="17" class="small middle">(\d+)</g)].map(([, time]) => time);
+    assert.ok(timesOf(told[0]).length > 3);
+    for (const page of told) assert.deepEqual(timesOf(page), timesOf(told[0]));
+    const whole = new Chart(runOf(textOf(tasks), trace, 0, 40), 1000);
+    assert.deepEqual(whole.drawPages(5000).map((page) => page.write()), [new Chart(runOf(textOf(tasks), trace, 0, 40), 1000).draw().write()]);
+  });
+
   test("one line says what is wrong", () => {
     const trace = "0 horizon\n";
     for (const [data, words, wanted] of [

@@ -19,7 +19,7 @@ import { tokensOf } from "../../web/design_text.js";
 import { Diagram } from "../../web/diagram.js";
 import { partsOf, readExplanation, slackOf, spareOf, termsOf, utilisationOf, wrongSums } from "../../web/explanation.js";
 import { backgroundOf, objectAt, readOutline, usesOf } from "../../web/outline.js";
-import { withNames } from "../../web/markup.js";
+import { widthOf, withNames, within } from "../../web/markup.js";
 import { markOf } from "../../web/places.js";
 import { Report, guaranteeOf } from "../../web/report.js";
 import { csvOf, latexOf, tableOfLines } from "../../web/tables.js";
@@ -482,6 +482,33 @@ test("bars in parts have each thread once, no part that is too high, and the cha
     const drawn = parts.map(({ bars }) => bars.draw());
     assert.deepEqual(drawn.map((one) => one.write().includes("data-chain")), parts.map((_, place) => place === parts.length - 1));
     if (most === 1300) for (const one of drawn) assert.ok(Number(one.get("height")) < 1500);
+  }
+});
+
+/** The texts of a picture with their edges, as their widths are reckoned. */
+function textsOf(markup) {
+  return [...markup.matchAll(/<text x="([\d.]+)" y="([\d.]+)" class="([^"]*)">([^<]*)</g)].map(([, x, y, kind, text]) => {
+    const width = widthOf(plainOf(text), kind.includes("small") ? 10 : 12, kind.includes("name"));
+    const left = Number(x) - (kind.includes("right") ? width : kind.includes("middle") ? width / 2 : 0);
+    return { text, y: Number(y), left, right: left + width };
+  });
+}
+
+test("a name is cut only where it is wider than its room", () => {
+  assert.equal(within("guidance_store", 80, 10), "guidance_store");
+  assert.equal(within("guidance_store", 50, 10), "guidanc..");
+  assert.equal(within("ab", 1, 10), "ab");
+});
+
+test("a long name is cut at the edge of the picture, and where a narrow one tells beside it how late the thread is", () => {
+  const name = "a_thread_with_a_long_name_mmmm";
+  const told = readExplanation(LATE.replace(/\bb\b/g, name).replace("period 12", "period 9"));
+  for (const width of [360, 390, 1000]) {
+    const texts = textsOf(new Bars(told, width).draw().write());
+    assert.ok(texts.some(({ text }) => text.includes("a_th")), "the name is shown");
+    for (const { text, left, right } of texts) assert.ok(left >= 0 && right <= width, `${width} pixels: ${text} from ${left} to ${right}`);
+    texts.forEach((one, place) => texts.slice(place + 1).filter(({ y }) => y === one.y).forEach((other) =>
+      assert.ok(one.right < other.left || other.right < one.left, `${width} pixels: ${one.text} and ${other.text}`)));
   }
 });
 

@@ -61,7 +61,8 @@ class Texts(unittest.TestCase):
             self.assertEqual(scaled.Text(text).scaled(1500), wanted)
 
     def test_words(self) -> None:
-        for words in ([], ['1000'], ['0', SCRIPT], ['1000001', SCRIPT], ['1.5', SCRIPT], ['-1', SCRIPT], ['1000', SCRIPT, SCRIPT]):
+        refused: list[list[str]] = [[], ['1000'], ['0', SCRIPT], ['1000001', SCRIPT], ['1.5', SCRIPT], ['-1', SCRIPT], ['1000', SCRIPT, SCRIPT]]
+        for words in refused:
             self.assertEqual(run([sys.executable, SCRIPT, *words])[0], 2, words)
         status, out, line = run([sys.executable, SCRIPT, '1000', '/absent'])
         self.assertEqual((status, out), (1, ''))

@@ -46,12 +46,21 @@ export async function tryWalk(page) {
     same(told.head, `The response of ${late.name} is up to ${late.response} ticks, which is ${late.response - late.deadline} ticks past its deadline of ${late.deadline} ticks.`,
       "the verdict tells the response, and not where the computation stopped");
     judge(/The tab Explain .*the tab Margin/.test(told.hints) && !told.words.some((word) => ["explain", "scale", "analyse"].includes(word)), `tabs have their names: ${told.hints}`);
+    const [left, right, from, to] = await page.evaluate(`(() => {
+      document.querySelector("#verdict .go").click();
+      const [mark, area] = [document.querySelector("#field-design .marks mark"), at("design")].map((one) => one.getBoundingClientRect());
+      return [mark.left, mark.right, area.left, area.right];
+    })()`);
+    judge(from <= left && right <= to, `the marked word is in view: ${left} to ${right} within ${from} to ${to}`);
     await click(page, "tab-timeline");
     const note = await page.evaluate(`document.querySelector("#panel-timeline .note").textContent`);
     judge(!note.includes("refused Q") && note.includes("For example these fit the design: UNTIL "), `why there is no simulation: ${note}`);
     await fit(page);
     const lanes = await page.evaluate(`document.querySelector("#window svg")?.textContent ?? ""`);
     judge(lanes.includes("simulated, no promise") && lanes.includes(`deadline ${late.deadline}`) && !lanes.includes("bound"), `deadlines are no bounds: ${lanes.slice(0, 200)}`);
+    const marks = await page.evaluate(`document.querySelectorAll("#window svg .late-end").length`);
+    const simulated = await page.evaluate(`document.querySelector("#panel-timeline .simulated").textContent`);
+    judge(marks > 0 && simulated.includes(`The first late activation is that of ${late.name}, released at tick `), `the late end is in the first window: ${marks}, ${simulated}`);
     await click(page, "tab-diagram");
     same(await page.evaluate(`[...document.querySelectorAll("#diagram .fault[data-object]")].map((one) => one.dataset.object)`), [late.name], "the late thread is marked");
     await panelOf(page, "explain");

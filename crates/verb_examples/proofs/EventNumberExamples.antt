@@ -1,5 +1,5 @@
 -- Examples: which events a line can hold: numbers at the ends of their types, eight values and nine, and places of a program.
-use Rattle.std.specs.Prelude.{ℕ, [], ◌∷◌, Some, None, codes}
+use Rattle.std.specs.Prelude.{◌≡◌, ℕ, [], ◌∷◌, length, Some, None, codes, refl}
 use Rattle.std.proofs.Common.{arith}
 use Rattle.seq_tree.specs.Statements.{Then, End, Null}
 use Rattle.seq_tree.specs.declared.tree.Costs.{Costs}
@@ -7,6 +7,7 @@ use Rattle.seq_tree.specs.Operations.{Operation}
 use Rattle.ada_tree.specs.Programs.{Program, Shared, Cyclic}
 use Rattle.trace_tree.specs.declared.event.Event.TheVariants.{Release, Arrive, Enter, Leave, Request, Print, Stop, Horizon}
 use Rattle.trace_tree.specs.declared.event.Event.TheVariants as event
+use Rattle.trace_tree.specs.Lines.{unit_ops}
 use Rattle.law_traces.specs.Told.{IsTicks, IsWord, IsWordWhere, AreWords, HasItsNumbers, IsEvent}
 
 -- NUMBERS AT THEIR ENDS
@@ -76,10 +77,10 @@ module _ (task unit op : ℕ) where
   nine_out h = omega (arith, h.1.0)
 
   high_priority : HasItsNumbers (Stop 0 task unit 4294967296 1) → ⊥
-  high_priority h = omega (arith, h.1.0)
+  high_priority h = omega (arith, h.1)
 
   high_ceiling : HasItsNumbers (Stop 0 task unit 1 4294967296) → ⊥
-  high_ceiling h = omega (arith, h.1.1)
+  high_ceiling h = omega (arith, h.2)
 
 -- PLACES OF A PROGRAM
 abbrev costs : Costs
@@ -96,17 +97,21 @@ two = record {
   units = record { name = codes "q"; form = Shared 1 [] (setting ∷ []) } ∷ record { name = codes "a"; form = Cyclic 1 0 10 [] (Then Null End) } ∷ [];
 }
 
+one_operation : length (unit_ops two 0) ≡ 1
+unfolding unit_ops
+one_operation = refl
+
 enters : IsEvent two (Enter 2 1 0 0 [])
-enters = ((omega arith, (omega arith, omega arith)), (omega arith, (omega arith, tt)))
+enters = ((omega arith, omega arith, omega (arith, one_operation)), (omega arith, (omega arith, tt)))
 
 no_such_task : IsEvent two (Enter 2 2 0 0 []) → ⊥
 no_such_task h = omega (arith, h.0.0)
 
 no_such_unit : IsEvent two (Enter 2 1 2 0 []) → ⊥
-no_such_unit h = omega (arith, h.0.1.0)
+no_such_unit h = omega (arith, h.0.1)
 
 no_such_operation : IsEvent two (Enter 2 1 0 1 []) → ⊥
-no_such_operation h = omega (arith, h.0.1.1)
+no_such_operation h = omega (arith, h.0.2, one_operation)
 
 no_such_value : IsEvent two (Enter 2 1 0 0 (4294967296 ∷ [])) → ⊥
 no_such_value h = omega (arith, h.1.1.1.0)

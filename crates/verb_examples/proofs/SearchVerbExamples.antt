@@ -166,7 +166,7 @@ check_told c = refl
 
 -- A FILE WITHOUT A BYTE
 not_made : (lines : List ℕ) → (searches (codes "d")).Makes empty lines → ⊥
-not_made lines h = no_design h.0 h.1.reads
+not_made lines h = no_design h.1.design h.1.reads
 
 cannot : (searches (codes "d")).CanDo empty → ⊥
-cannot h = no_design h.design h.taken.reads
+cannot h = no_design h.taken.design h.taken.reads

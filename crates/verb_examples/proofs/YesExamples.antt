@@ -1,6 +1,7 @@
 -- Examples: how a run of `accepts` ends for a trace that it takes, and what a verified trace is. Each definition holds of all its parts, and
 -- without one of them it doesn't.
 use Rattle.std.specs.Prelude.{◌≡◌, ℕ, ◌≤◌, List, [], ◌∷◌, ◌++◌, length, codes, Option, Some, refl}
+use Rattle.std.specs.Fmt.{digits}
 use Rattle.std.proofs.Common.{arith, lit≤, ap}
 use Rattle.ada_tree.specs.Programs.{Program}
 use Rattle.hood_io.specs.Shelves.{Told}
@@ -19,16 +20,19 @@ use Rattle.verb_examples.proofs.EndExamples.{start, shelf, bare}
 
 -- HOW IT ENDS
 done : EndsWithYes Done 3 start (record start { out = Some (codes "oyes lines 3\n") })
+unfolding digits
 done = refl
 
 -- of so many lines, and not of others; behind what stood there
 done_with_others : EndsWithYes Done 3 start (record start { out = Some (codes "oyes lines 30\n") }) → ⊥
+unfolding digits
 done_with_others h = omega (arith, ap length (same h))
   where
     same : {a b : List ℕ} → ◌≡◌ {A = Option (List ℕ)} (Some a) (Some b) → a ≡ b
     same e = cc
 
 done_alone : EndsWithYes Done 3 start (record start { out = Some (codes "yes lines 3\n") }) → ⊥
+unfolding digits
 done_alone h = omega (arith, ap length (same h))
   where
     same : {a b : List ℕ} → ◌≡◌ {A = Option (List ℕ)} (Some a) (Some b) → a ≡ b
